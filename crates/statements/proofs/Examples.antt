@@ -1,0 +1,27 @@
+-- The marked examples hold of the definitions: each is computed. Assumes nothing.
+use mathlib.Core.Path.{refl}
+use lib.Bits.{bitAnd}
+use Rattle.statements.specs.Sets.{bit, numbers, every, first, joined, iterate, isIn, allIn, filter}
+use Rattle.statements.specs.Plants.{word, labelsFrom, arrowsFrom, plantOf, headOk, labelsOk, rank, arrowsOk, plantFault, allowed, inGoal, endsIn, ends, available, goesInto, moveInto, can}
+use Rattle.statements.specs.Kept.{grown, target, forced, forcedAll, keptRound, keptWithin, level, waitOf, nearer, listedMove}
+use Rattle.statements.specs.Books.{two, bookLong, entryOf, rowOf, headOf, bookBytes, bookStates, bookMoves, bookGoals, bookCount, bookMask, waitAt, moveAt, isLost, isHeld, bookKept, maskOk, bookHeadOk, rowsOk, bookFault, nextGoal, lessMask, bookWithin, madeBook, keptBefore, withdrawnBook, droppedStates}
+use Rattle.statements.specs.Calls.{maskFault, bookRoom, dropRoom, makeFault, alike, withdrawFault, consultFault, rowPart, answerOf, writtenBy, standingAfter, standing, answers, toldOf, told, putBy, inService}
+use Rattle.statements.specs.Marked.{bytesOf, plantP, plantStill, plantLoop, plantMay, plantEnd, bookP, lostRow, bookM1, bookM9, allLost, Makes, Withdraws, Consults, Marked}
+
+pub marked : Marked
+unfolding bit numbers every first joined iterate isIn allIn filter word labelsFrom arrowsFrom plantOf headOk labelsOk rank arrowsOk plantFault allowed inGoal endsIn ends available goesInto moveInto can grown target forced forcedAll keptRound keptWithin level waitOf nearer listedMove two bookLong entryOf rowOf headOf bookBytes bookStates bookMoves bookGoals bookCount bookMask waitAt moveAt isLost isHeld bookKept maskOk bookHeadOk rowsOk bookFault nextGoal lessMask bookWithin madeBook keptBefore withdrawnBook droppedStates maskFault bookRoom dropRoom makeFault alike withdrawFault consultFault rowPart answerOf writtenBy standingAfter standing answers toldOf told putBy inService bytesOf plantP plantStill plantLoop plantMay plantEnd bookP lostRow bookM1 bookM9 allLost
+marked =
+    record {
+      m1 = record { accepted = refl; short = refl; book = refl };
+      m2 = record { accepted = refl; short-book = refl; short-drops = refl; book = refl; drops = refl };
+      m3 = record { accepted = refl; short-book = refl; short-drops = refl; book = refl; drops = refl };
+      m4 = record { accepted = refl; short-book = refl; short-drops = refl; book = refl; drops = refl };
+      m5 = record { accepted = refl; short = refl; book = refl };
+      m6 = record { accepted = refl; short = refl; book = refl };
+      m7 = record { accepted = refl; short = refl; book = refl };
+      m8 = record { accepted = refl; short = refl; book = refl };
+      m9 = record { accepted = refl; short-book = refl; short-drops = refl; book = refl; drops = refl };
+      m10-first = record { accepted = refl; move-is = refl; wait-is = refl; seek-is = refl };
+      m10-second = record { accepted = refl; move-is = refl; wait-is = refl; seek-is = refl };
+      m11 = record { accepted = refl; short = refl; book = refl };
+    }

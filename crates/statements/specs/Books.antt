@@ -1,0 +1,121 @@
+-- A control book (a strategy table): its bytes, what is read from any book's bytes, and refusals 4 and 5.
+use mathlib.Core.Bool.{Bool, true, false, _&&_, _||_, not}
+use mathlib.Core.List.{List, [], _∷_, _++_}
+use Prim.Native.Nat.{ℕ, zero, suc, _+_, _-_, _*_, _/_, _%_, _^_}
+use lib.Dec.{eqb, ltb, leb}
+use lib.ListN.{length, drop}
+use lib.Bits.{bitAnd}
+use Rattle.statements.specs.Sets.{pick, bit, numbers, every, joined, isIn, filter}
+use Rattle.statements.specs.Plants.{word, firstOf, when, Plant, allowed}
+use Rattle.statements.specs.Kept.{keptWithin, waitOf, listedMove}
+
+-- a two-byte number's bytes, the low one first
+unfoldable pub two : ℕ → List ℕ
+two v = v % 256 ∷ (v / 256 ∷ [])
+
+-- marks a lost state, and nothing else
+abbrev pub lostMark : ℕ
+lostMark = 65535
+
+-- the length of a book for s states and n goals
+unfoldable pub bookLong : ℕ → ℕ → ℕ
+bookLong s n = 16 + 4 * (s * n)
+
+-- an entry: wait, then move
+unfoldable pub entryOf : Plant → ℕ → List ℕ → ℕ → ℕ → List ℕ
+entryOf p mask kept x i =
+    pick (isIn x kept) (two (waitOf p mask kept i x) ++ two (listedMove p mask kept i x)) (two lostMark ++ two lostMark)
+
+-- a state's row: one entry per goal
+unfoldable pub rowOf : Plant → ℕ → List ℕ → ℕ → List ℕ
+rowOf p mask kept x = joined (p .goals) 0 (entryOf p mask kept x)
+
+unfoldable pub headOf : Plant → ℕ → List ℕ → List ℕ
+headOf p mask kept =
+    two (p .states) ++ (two (p .moves) ++ (two (p .goals) ++ (two (length kept) ++ (two (mask % 65536) ++ (two (mask / 65536) ++ (two 16 ++ two (bookLong (p .states) (p .goals))))))))
+
+-- the book's bytes for a plant, the moves in service and the kept states
+unfoldable pub bookBytes : Plant → ℕ → List ℕ → List ℕ
+bookBytes p mask kept = headOf p mask kept ++ joined (p .states) 0 (rowOf p mask kept)
+
+-- the figures in any book
+unfoldable pub bookStates : List ℕ → ℕ
+bookStates b = word 0 b
+
+unfoldable pub bookMoves : List ℕ → ℕ
+bookMoves b = word 1 b
+
+unfoldable pub bookGoals : List ℕ → ℕ
+bookGoals b = word 2 b
+
+unfoldable pub bookCount : List ℕ → ℕ
+bookCount b = word 3 b
+
+unfoldable pub bookMask : List ℕ → ℕ
+bookMask b = word 4 b + 65536 * word 5 b
+
+unfoldable pub waitAt : List ℕ → ℕ → ℕ → ℕ
+waitAt b x i = word 0 (drop (16 + 4 * (x * bookGoals b + i)) b)
+
+unfoldable pub moveAt : List ℕ → ℕ → ℕ → ℕ
+moveAt b x i = word 1 (drop (16 + 4 * (x * bookGoals b + i)) b)
+
+-- a state is lost in a book when both places of every entry of its row have the mark
+unfoldable pub isLost : List ℕ → ℕ → Bool
+isLost b x = every (bookGoals b) 0 (λ i. eqb (waitAt b x i) lostMark && eqb (moveAt b x i) lostMark)
+
+-- a row with every wait at most 1,023 and every move in the book's mask
+unfoldable pub isHeld : List ℕ → ℕ → Bool
+isHeld b x =
+    every (bookGoals b) 0
+    (λ i. leb (waitAt b x i) 1023 && (ltb (moveAt b x i) (bookMoves b) && bit (moveAt b x i) (bookMask b)))
+
+-- the states kept in a book
+unfoldable pub bookKept : List ℕ → List ℕ
+bookKept b = filter (λ x. not (isLost b x)) (numbers (bookStates b) 0)
+
+-- no bit of a mask at u or above
+unfoldable pub maskOk : ℕ → ℕ → Bool
+maskOk u mask = ltb mask (2 ^ u)
+
+unfoldable pub bookHeadOk : List ℕ → Bool
+bookHeadOk b =
+    let s = bookStates b in
+    let u = bookMoves b in
+    let n = bookGoals b in
+    leb 16 (length b) && (leb 1 s && (leb s 1024 && (leb 1 u && (leb u 32 && (leb 1 n && (leb n 8 && (eqb (word 6 b) 16 && (eqb (word 7 b) (bookLong s n) && (maskOk u (bookMask b) && eqb (length b) (word 7 b))))))))))
+
+unfoldable pub rowsOk : List ℕ → Bool
+rowsOk b =
+    every (bookStates b) 0 (λ x. isLost b x || isHeld b x) && eqb (bookCount b) (length (bookKept b))
+
+-- answers 4 and 5, or 0 for a book that is accepted
+unfoldable pub bookFault : List ℕ → ℕ
+bookFault b = firstOf (when (not (bookHeadOk b)) 4) (when (not (rowsOk b)) 5)
+
+-- the goal to seek next: the same one, or at wait 0 the next, after the last the first
+unfoldable pub nextGoal : List ℕ → ℕ → ℕ → ℕ
+nextGoal b x i = pick (eqb (waitAt b x i) 0) (pick (eqb (suc i) (bookGoals b)) 0 (suc i)) i
+
+-- the bits of a mask that are not in another
+unfoldable pub lessMask : ℕ → ℕ → ℕ
+lessMask a b = a - bitAnd a b
+
+-- the book for the moves in service when strategies may not leave the states at which a test holds
+unfoldable pub bookWithin : Plant → ℕ → (ℕ → Bool) → List ℕ
+bookWithin p mask within = bookBytes p mask (keptWithin p mask within)
+
+-- the book of a making
+unfoldable pub madeBook : Plant → ℕ → List ℕ
+madeBook p mask = bookWithin p mask (allowed p)
+
+-- the book of a withdrawal from any book b: within the allowed states that b keeps
+unfoldable pub keptBefore : Plant → List ℕ → ℕ → Bool
+keptBefore p b x = allowed p x && not (isLost b x)
+
+unfoldable pub withdrawnBook : Plant → List ℕ → ℕ → List ℕ
+withdrawnBook p b gone = bookWithin p (lessMask (bookMask b) gone) (keptBefore p b)
+
+-- the states kept in one book and lost in another, rising
+unfoldable pub droppedStates : List ℕ → List ℕ → List ℕ
+droppedStates before after = filter (isLost after) (bookKept before)

@@ -1,0 +1,94 @@
+-- The calls' refusals, 1 to 8, and lists of calls: the standing book, and the moves in service as told from the calls.
+use mathlib.Core.Bool.{Bool, true, false, _&&_, _||_, not}
+use mathlib.Core.List.{List, [], _∷_}
+use Prim.Native.Nat.{ℕ, zero, suc, _+_, _*_}
+use lib.Dec.{eqb, ltb, leb}
+use lib.ListN.{take, drop}
+use Rattle.statements.specs.Sets.{pick}
+use Rattle.statements.specs.Plants.{firstOf, when, Plant, plantOf, plantFault}
+use Rattle.statements.specs.Books.{bookLong, bookStates, bookMoves, bookGoals, maskOk, bookHeadOk, bookFault, lessMask, madeBook, withdrawnBook}
+
+-- answer 6: the mask given has a bit at U or above; answer 7: a book buffer under the book's length, or a drop buffer
+-- under 2S bytes
+unfoldable pub maskFault : Plant → ℕ → ℕ
+maskFault p mask = when (not (maskOk (p .moves) mask)) 6
+
+unfoldable pub bookRoom : Plant → ℕ → Bool
+bookRoom p room = leb (bookLong (p .states) (p .goals)) room
+
+unfoldable pub dropRoom : Plant → ℕ → Bool
+dropRoom p drops = leb (2 * p .states) drops
+
+-- what make answers for a plant's bytes, a mask and a buffer's length: 1, 2, 3, 6, 7, or 0 when it is accepted
+unfoldable pub makeFault : List ℕ → ℕ → ℕ → ℕ
+makeFault s mask room =
+    let p = plantOf s in
+    firstOf (plantFault s) (firstOf (maskFault p mask) (when (not (bookRoom p room)) 7))
+
+-- a book for as many states, moves and goals as the plant has
+unfoldable pub alike : Plant → List ℕ → Bool
+alike p b = eqb (bookStates b) (p .states) && (eqb (bookMoves b) (p .moves) && eqb (bookGoals b) (p .goals))
+
+-- what withdraw answers for a plant's bytes, a book, a mask and its buffers' lengths: 1 to 7, or 0
+unfoldable pub withdrawFault : List ℕ → List ℕ → ℕ → ℕ → ℕ → ℕ
+withdrawFault s b gone room drops =
+    let p = plantOf s in
+    firstOf (plantFault s)
+    (firstOf (when (not (bookHeadOk b && alike p b)) 4)
+    (firstOf (bookFault b)
+    (firstOf (maskFault p gone) (when (not (bookRoom p room && dropRoom p drops)) 7))))
+
+-- what consult answers for a book, a state and a goal: 4, 5, 8, or 0
+unfoldable pub consultFault : List ℕ → ℕ → ℕ → ℕ
+consultFault b x i = firstOf (bookFault b) (when (leb (bookStates b) x || leb (bookGoals b) i) 8)
+
+-- the part of a book that row hands back; empty when refused
+unfoldable pub rowPart : List ℕ → ℕ → List ℕ
+rowPart b x =
+    pick (eqb (consultFault b x 0) 0) (take (4 * bookGoals b) (drop (16 + 4 * (x * bookGoals b)) b)) []
+
+-- a make, or a withdrawal from the standing book: its mask and its buffers' lengths
+pub data Call : Type 0 where
+  makes : (mask room : ℕ) → Call
+  withdraws : (gone room drops : ℕ) → Call
+
+-- the number a call on a plant's bytes returns when b is the standing book
+unfoldable pub answerOf : List ℕ → List ℕ → Call → ℕ
+answerOf s b (makes mask room) = makeFault s mask room
+answerOf s b (withdraws gone room drops) = withdrawFault s b gone room drops
+
+-- the book that an accepted call writes
+unfoldable pub writtenBy : List ℕ → List ℕ → Call → List ℕ
+writtenBy s b (makes mask room) = madeBook (plantOf s) mask
+writtenBy s b (withdraws gone room drops) = withdrawnBook (plantOf s) b gone
+
+-- the standing book after a call, and after a list of calls: a refused call leaves it as it was
+unfoldable pub standingAfter : List ℕ → List ℕ → Call → List ℕ
+standingAfter s b c = pick (eqb (answerOf s b c) 0) (writtenBy s b c) b
+
+unfoldable pub standing : List ℕ → List ℕ → List Call → List ℕ
+standing s b [] = b
+standing s b (c ∷ cs) = standing s (standingAfter s b c) cs
+
+-- the numbers that the calls of a list return, one after the other
+unfoldable pub answers : List ℕ → List ℕ → List Call → List ℕ
+answers s b [] = []
+answers s b (c ∷ cs) = answerOf s b c ∷ answers s (standingAfter s b c) cs
+
+-- told from the calls alone: 6 for a mask, 7 for a buffer, otherwise accepted
+unfoldable pub toldOf : Plant → Call → ℕ
+toldOf p (makes mask room) = firstOf (maskFault p mask) (when (not (bookRoom p room)) 7)
+toldOf p (withdraws gone room drops) = firstOf (maskFault p gone) (when (not (bookRoom p room && dropRoom p drops)) 7)
+
+unfoldable pub told : Plant → List Call → List ℕ
+told p [] = []
+told p (c ∷ cs) = toldOf p c ∷ told p cs
+
+-- the moves in service after a call, and after a list of calls, told from the calls alone
+unfoldable pub putBy : ℕ → Call → ℕ
+putBy mask (makes new room) = new
+putBy mask (withdraws gone room drops) = lessMask mask gone
+
+unfoldable pub inService : Plant → ℕ → List Call → ℕ
+inService p mask [] = mask
+inService p mask (c ∷ cs) = inService p (pick (eqb (toldOf p c) 0) (putBy mask c) mask) cs

@@ -1,0 +1,80 @@
+-- Demands 2 and 3, stated: these records are what the product claims of its books. The proofs are in crate demands.
+use mathlib.Core.Path.{_≡_}
+use mathlib.Core.Logic.{_↔_}
+use mathlib.Core.Bool.{Bool, true, false}
+use mathlib.Core.List.{List, [], _∷_}
+use Prim.Native.Nat.{ℕ, zero, suc, _+_, _*_, _≤_, _<_}
+use lib.ListN.{length, getD}
+use Rattle.statements.specs.Sets.{isIn}
+use Rattle.statements.specs.Plants.{word, Plant, plantOf, plantFault, allowed, ends, available}
+use Rattle.statements.specs.Books.{bookLong, bookStates, bookMoves, bookGoals, bookCount, bookMask, waitAt, moveAt, isLost, bookKept, maskOk, lessMask, keptBefore, madeBook, withdrawnBook, droppedStates}
+use Rattle.statements.specs.Calls.{makeFault, withdrawFault, Call, standing, answers, told, inService}
+use Rattle.statements.specs.Strategies.{Wins-by, Wins, Forces, following}
+
+-- u is the lowest available move in x all of whose arrows end in states with a property
+pub record Lowest (p : Plant) (mask x : ℕ) (good : ℕ → Type 0) (u : ℕ) : Type 0 where
+  pub is-available : available p mask x u ≡ true
+  pub ends-well : (y : ℕ) → isIn y (ends p x u) ≡ true → good y
+  pub none-lower : (v : ℕ) → v < u → available p mask x v ≡ true → ((y : ℕ) → isIn y (ends p x v) ≡ true → good y) → ⊥
+
+-- document 01, "The book's bytes", in its own words: b is the book for a plant, the moves in service and the set that
+-- strategies may not leave. A state is kept when a strategy wins from it.
+pub record IsBook (p : Plant) (mask : ℕ) (within : ℕ → Type 0) (b : List ℕ) : Type 0 where
+  -- a list of bytes, as many as the header says
+  pub bytes : (k : ℕ) → getD b k 0 < 256
+  pub size : length b ≡ bookLong (p .states) (p .goals)
+  -- the header's eight numbers
+  pub states : bookStates b ≡ p .states
+  pub moves : bookMoves b ≡ p .moves
+  pub goals : bookGoals b ≡ p .goals
+  pub count : bookCount b ≡ length (bookKept b)
+  pub mask-is : bookMask b ≡ mask
+  pub rows-at : word 6 b ≡ 16
+  pub total : word 7 b ≡ length b
+  -- a lost state has the mark in both places of every entry, and only a lost state has
+  pub kept : (x : ℕ) → x < p .states → (isLost b x ≡ false) ↔ Wins p mask within x
+  -- a kept state's wait is the least number of moves in which the goal can be forced within kept states
+  pub wait : (x i n : ℕ) → x < p .states → i < p .goals → Wins p mask within x → (waitAt b x i ≤ n) ↔ Forces p mask (Wins p mask within) x i n
+  -- its move is the lowest available one into kept states, above wait 0 into those with a smaller wait
+  pub move : (x i : ℕ) → x < p .states → i < p .goals → Wins p mask within x → Lowest p mask x (λ y. Wins p mask within y × (0 < waitAt b x i → waitAt b y i < waitAt b x i)) (moveAt b x i)
+
+-- the sets that strategies may not leave: in a making the allowed states, in a withdrawal those of them that the book
+-- handed in keeps
+abbrev pub Allowed : Plant → ℕ → Type 0
+Allowed p x = allowed p x ≡ true
+
+abbrev pub KeptBefore : Plant → List ℕ → ℕ → Type 0
+KeptBefore p b x = keptBefore p b x ≡ true
+
+-- the numbers of a list strictly rise, so that each stands there once
+abbrev pub Rising : List ℕ → Type 0
+Rising xs = (j k : ℕ) → j < k → k < length xs → getD xs j 0 < getD xs k 0
+
+-- what demand 2 says of the book b written for a plant with moves in service and a set not to be left
+pub record Right (p : Plant) (mask : ℕ) (within : ℕ → Type 0) (b : List ℕ) : Type 0 where
+  pub is-book : IsBook p mask within b
+  -- and of no other list of bytes
+  pub no-other : (other : List ℕ) → IsBook p mask within other → other ≡ b
+  -- a wait is at most 1,023
+  pub short : (x i : ℕ) → x < p .states → i < p .goals → Wins p mask within x → waitAt b x i ≤ 1023
+  -- following the book from a kept state and any first goal wins without leaving kept states
+  pub follows : (x goal : ℕ) → x < p .states → goal < p .goals → isLost b x ≡ false → Wins-by p mask (Wins p mask within) x (following b goal)
+
+-- demand 2: kept states, waits and moves are those of strategies over whole histories
+pub record Demand-2 : Type 0 where
+  -- for the book of a making
+  pub made : (s : List ℕ) (mask room : ℕ) → makeFault s mask room ≡ 0 → Right (plantOf s) mask (Allowed (plantOf s)) (madeBook (plantOf s) mask)
+  -- and for that of a withdrawal from any book, also one that nobody made
+  pub withdrawn : (s b : List ℕ) (gone room drops : ℕ) → withdrawFault s b gone room drops ≡ 0 → Right (plantOf s) (lessMask (bookMask b) gone) (KeptBefore (plantOf s) b) (withdrawnBook (plantOf s) b gone)
+  -- the drop list: the states kept before and lost now, each once
+  pub dropped : (s b : List ℕ) (gone room drops : ℕ) → withdrawFault s b gone room drops ≡ 0 → (x : ℕ) → let after = withdrawnBook (plantOf s) b gone in (isIn x (droppedStates b after) ≡ true) ↔ ((x < plantOf s .states) × (isLost b x ≡ false) × (isLost after x ≡ true))
+  pub once : (b after : List ℕ) → Rising (droppedStates b after)
+
+-- demand 3: after any list of calls that follows an accepted make
+pub record Demand-3 : Type 0 where
+  -- the standing book is that of a making afresh with the moves in service
+  pub as-afresh : (s : List ℕ) (mask room : ℕ) (calls : List Call) → makeFault s mask room ≡ 0 → standing s (madeBook (plantOf s) mask) calls ≡ madeBook (plantOf s) (inService (plantOf s) mask calls)
+  -- each call's answer is told from the calls alone
+  pub told-alone : (s : List ℕ) (mask room : ℕ) (calls : List Call) → makeFault s mask room ≡ 0 → answers s (madeBook (plantOf s) mask) calls ≡ told (plantOf s) calls
+  -- two such books are equal exactly when the same moves are in service
+  pub equal-books : (s : List ℕ) (mask room other-mask other-room : ℕ) (calls other-calls : List Call) → makeFault s mask room ≡ 0 → makeFault s other-mask other-room ≡ 0 → (standing s (madeBook (plantOf s) mask) calls ≡ standing s (madeBook (plantOf s) other-mask) other-calls) ↔ (inService (plantOf s) mask calls ≡ inService (plantOf s) other-mask other-calls)

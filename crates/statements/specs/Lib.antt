@@ -1,0 +1,9 @@
+-- The definitions that every promise cites. Read them in this order: each file leans on those above it alone.
+pub mod Sets
+pub mod Plants
+pub mod Kept
+pub mod Books
+pub mod Calls
+pub mod Strategies
+pub mod Demands
+pub mod Marked

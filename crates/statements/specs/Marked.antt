@@ -1,0 +1,84 @@
+-- The marked examples M1 to M11 of document 01 as one table. Plants and books are written as their two-byte numbers.
+use mathlib.Core.Path.{_≡_}
+use mathlib.Core.Bool.{Bool, true, false}
+use mathlib.Core.List.{List, [], _∷_, _++_}
+use Prim.Native.Nat.{ℕ, zero, suc, _-_}
+use Rattle.statements.specs.Plants.{Plant, plantOf}
+use Rattle.statements.specs.Books.{two, waitAt, moveAt, nextGoal, madeBook, withdrawnBook, droppedStates}
+use Rattle.statements.specs.Calls.{makeFault, withdrawFault, consultFault}
+
+unfoldable pub bytesOf : List ℕ → List ℕ
+bytesOf [] = []
+bytesOf (v ∷ vs) = two v ++ bytesOf vs
+
+-- strip plant P: header, labels 3 1 5 0, then the eight arrows
+unfoldable pub plantP : List ℕ
+plantP =
+    bytesOf
+    (4 ∷ 3 ∷ 2 ∷ 8 ∷ 16 ∷ 24 ∷ 72 ∷ 0 ∷ 3 ∷ 1 ∷ 5 ∷ 0 ∷ 0 ∷ 0 ∷ 1 ∷ 0 ∷ 1 ∷ 1 ∷ 0 ∷ 1 ∷ 2 ∷ 1 ∷ 0 ∷ 2 ∷ 1 ∷ 1 ∷ 3 ∷ 1 ∷ 2 ∷ 0 ∷ 2 ∷ 0 ∷ 0 ∷ 2 ∷ 2 ∷ 1 ∷ [])
+
+-- one state with this label, U 1, N 1: without an arrow, and with the arrow (0,0,0)
+unfoldable pub plantStill : List ℕ
+plantStill = bytesOf (1 ∷ 1 ∷ 1 ∷ 0 ∷ 16 ∷ 18 ∷ 18 ∷ 0 ∷ 3 ∷ [])
+
+unfoldable pub plantLoop : ℕ → List ℕ
+plantLoop label = bytesOf (1 ∷ 1 ∷ 1 ∷ 1 ∷ 16 ∷ 18 ∷ 24 ∷ 0 ∷ label ∷ 0 ∷ 0 ∷ 0 ∷ [])
+
+-- two allowed states, goal {1}: arrows (0,0,0) (0,0,1) (1,0,1), and the arrow (0,0,1) alone
+unfoldable pub plantMay : List ℕ
+plantMay = bytesOf (2 ∷ 1 ∷ 1 ∷ 3 ∷ 16 ∷ 20 ∷ 38 ∷ 0 ∷ 1 ∷ 3 ∷ 0 ∷ 0 ∷ 0 ∷ 0 ∷ 0 ∷ 1 ∷ 1 ∷ 0 ∷ 1 ∷ [])
+
+unfoldable pub plantEnd : List ℕ
+plantEnd = bytesOf (2 ∷ 1 ∷ 1 ∷ 1 ∷ 16 ∷ 20 ∷ 26 ∷ 0 ∷ 1 ∷ 3 ∷ 0 ∷ 0 ∷ 1 ∷ [])
+
+-- a book for P: its count, its mask and its rows
+unfoldable pub bookP : ℕ → ℕ → List ℕ → List ℕ
+bookP count mask rows = bytesOf (4 ∷ 3 ∷ 2 ∷ count ∷ mask ∷ 0 ∷ 16 ∷ 48 ∷ rows)
+
+unfoldable pub lostRow : List ℕ
+lostRow = 65535 ∷ 65535 ∷ 65535 ∷ 65535 ∷ []
+
+-- the book of M1, and that book with row 1 set to lost and K 2
+unfoldable pub bookM1 : List ℕ
+bookM1 = bookP 3 7 (0 ∷ 0 ∷ 2 ∷ 0 ∷ 1 ∷ 2 ∷ 1 ∷ 0 ∷ 1 ∷ 0 ∷ 0 ∷ 0 ∷ lostRow)
+
+unfoldable pub bookM9 : List ℕ
+bookM9 = bookP 2 7 (0 ∷ 0 ∷ 2 ∷ 0 ∷ (lostRow ++ (1 ∷ 0 ∷ 0 ∷ 0 ∷ lostRow)))
+
+unfoldable pub allLost : ℕ → List ℕ
+allLost mask = bookP 0 mask (lostRow ++ (lostRow ++ (lostRow ++ lostRow)))
+
+-- making with a mask is accepted with a buffer of just the book's length, and gives this book
+pub record Makes (s : List ℕ) (mask room : ℕ) (b : List ℕ) : Type 0 where
+  pub accepted : makeFault s mask room ≡ 0
+  pub short : makeFault s mask (room - 1) ≡ 7
+  pub book : madeBook (plantOf s) mask ≡ b
+
+-- withdrawing a mask from a book for P is accepted with buffers of just their lengths, gives this book and drops these
+pub record Withdraws (b : List ℕ) (gone : ℕ) (after dropped : List ℕ) : Type 0 where
+  pub accepted : withdrawFault plantP b gone 48 8 ≡ 0
+  pub short-book : withdrawFault plantP b gone 47 8 ≡ 7
+  pub short-drops : withdrawFault plantP b gone 48 7 ≡ 7
+  pub book : withdrawnBook (plantOf plantP) b gone ≡ after
+  pub drops : droppedStates b after ≡ dropped
+
+-- consulting a book for a state and a goal gives a move, a wait and the goal to seek next
+pub record Consults (b : List ℕ) (x i move wait seek : ℕ) : Type 0 where
+  pub accepted : consultFault b x i ≡ 0
+  pub move-is : moveAt b x i ≡ move
+  pub wait-is : waitAt b x i ≡ wait
+  pub seek-is : nextGoal b x i ≡ seek
+
+pub record Marked : Type 0 where
+  pub m1 : Makes plantP 7 48 bookM1
+  pub m2 : Withdraws bookM1 4 (bookP 3 3 (0 ∷ 0 ∷ 2 ∷ 0 ∷ 2 ∷ 0 ∷ 1 ∷ 0 ∷ 1 ∷ 0 ∷ 0 ∷ 0 ∷ lostRow)) []
+  pub m3 : Withdraws bookM1 1 (allLost 6) (0 ∷ 1 ∷ 2 ∷ [])
+  pub m4 : Withdraws bookM1 2 (bookP 3 5 (0 ∷ 0 ∷ 2 ∷ 0 ∷ 1 ∷ 2 ∷ 1 ∷ 0 ∷ 1 ∷ 0 ∷ 0 ∷ 0 ∷ lostRow)) []
+  pub m5 : Makes plantStill 1 20 (bytesOf (1 ∷ 1 ∷ 1 ∷ 0 ∷ 1 ∷ 0 ∷ 16 ∷ 20 ∷ 65535 ∷ 65535 ∷ []))
+  pub m6 : Makes (plantLoop 3) 1 20 (bytesOf (1 ∷ 1 ∷ 1 ∷ 1 ∷ 1 ∷ 0 ∷ 16 ∷ 20 ∷ 0 ∷ 0 ∷ []))
+  pub m7 : Makes (plantLoop 1) 1 20 (bytesOf (1 ∷ 1 ∷ 1 ∷ 0 ∷ 1 ∷ 0 ∷ 16 ∷ 20 ∷ 65535 ∷ 65535 ∷ []))
+  pub m8 : Makes plantMay 1 24 (bytesOf (2 ∷ 1 ∷ 1 ∷ 1 ∷ 1 ∷ 0 ∷ 16 ∷ 24 ∷ 65535 ∷ 65535 ∷ 0 ∷ 0 ∷ []))
+  pub m9 : Withdraws bookM9 0 (allLost 7) (0 ∷ 2 ∷ [])
+  pub m10-first : Consults bookM1 0 1 0 2 1
+  pub m10-second : Consults bookM1 2 1 0 0 0
+  pub m11 : Makes plantEnd 1 24 (bytesOf (2 ∷ 1 ∷ 1 ∷ 0 ∷ 1 ∷ 0 ∷ 16 ∷ 24 ∷ 65535 ∷ 65535 ∷ 65535 ∷ 65535 ∷ []))
