@@ -1,0 +1,1 @@
+-- No definitions of its own: kept states and waits are those of crate statements, specs/Kept.antt.

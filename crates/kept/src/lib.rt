@@ -1,0 +1,1 @@
+// No functions: laws of kept states and waits in proofs/.

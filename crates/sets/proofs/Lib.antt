@@ -1,0 +1,5 @@
+pub mod Tests
+pub mod Members
+pub mod First
+pub mod Iterate
+pub mod Rising

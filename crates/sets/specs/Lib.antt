@@ -1,0 +1,1 @@
+-- No definitions of its own: the vocabulary is that of crate statements, specs/Sets.antt.

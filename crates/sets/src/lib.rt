@@ -1,0 +1,1 @@
+// No functions: laws of the small vocabulary of sets in proofs/.
