@@ -55,7 +55,7 @@ allIn-fails (z ∷ xs) ys h =
     (decided (isIn z ys))
 
 -- a member of a filter is a member at which the test holds
-isIn-consIf : (b : Bool) (y x : ℕ) (xs : List ℕ) → isIn y (consIf b x xs) ≡ true → ((y ≡ x) × (b ≡ true)) ⊎ (isIn y xs ≡ true)
+pub isIn-consIf : (b : Bool) (y x : ℕ) (xs : List ℕ) → isIn y (consIf b x xs) ≡ true → ((y ≡ x) × (b ≡ true)) ⊎ (isIn y xs ≡ true)
 isIn-consIf true y x xs h = ⊎-elim (λ e. inl (e, refl)) (λ m. inr m) (isIn-cases y x xs h)
 isIn-consIf false y x xs h = inr h
 

@@ -1,0 +1,193 @@
+-- What it gives that a plant, a book or a call is accepted, and what a call answers once the plant and book are.
+-- Assumes nothing.
+use mathlib.Core.Path.{_≡_, refl, sym, ap}
+use mathlib.Core.Logic.{_↔_, inl, inr}
+use mathlib.Core.Bool.{Bool, true, false, _&&_, not, true≢false}
+use mathlib.Core.List.{List, [], _∷_}
+use Prim.Native.Nat.{ℕ, zero, suc, _≤_, _<_}
+use native.Mathlib.Omega.{arith}
+use native.Mathlib.Decide.{decLt}
+use lib.Dec.{eqb, ltb, leb}
+use lib.ListN.{length, drop, List·getD-eq-default}
+use borrow.Author.Tests.{ltb-true, leb-true, eqb-true}
+use Rattle.statements.specs.Sets.{bit, isIn}
+use Rattle.statements.specs.Plants.{word, Arrow, Plant, labelsFrom, plantOf, headOk, labelsOk, arrowsOk, rank}
+use Rattle.statements.specs.Plants.{firstOf, when, plantFault, allowed, endsIn}
+use Rattle.statements.specs.Books.{bookLong, bookStates, bookMoves, bookGoals, bookMask, maskOk, bookHeadOk, rowsOk}
+use Rattle.statements.specs.Books.{bookFault}
+use Rattle.statements.specs.Calls.{maskFault, bookRoom, dropRoom, makeFault, alike, withdrawFault, makes, withdraws}
+use Rattle.statements.specs.Calls.{toldOf}
+use Rattle.sets.proofs.Tests.{and-true, and-left, and-right}
+use Rattle.sets.proofs.Members.{isIn-none, isIn-consIf}
+use Rattle.decoding.proofs.Sizes.{Sizes}
+
+pub and-iff : (a b : Bool) → (a && b ≡ true) ↔ ((a ≡ true) × (b ≡ true))
+and-iff a b = (λ h. (and-left a b h, and-right a b h), λ h. and-true (h .0) (h .1))
+
+pub first-iff : (a b : ℕ) → (firstOf a b ≡ 0) ↔ ((a ≡ 0) × (b ≡ 0))
+first-iff zero b = (λ h. (refl, h), λ h. h .1)
+first-iff (suc a) b = (λ h. absurd (omega arith), λ h. h .0)
+
+-- a refusal when a test fails
+pub when-iff : (t : Bool) (n : ℕ) → (when (not t) (suc n) ≡ 0) ↔ (t ≡ true)
+when-iff true n = (λ h. refl, λ h. refl)
+when-iff false n = (λ h. absurd (omega arith), λ h. absurd (true≢false (sym h)))
+
+-- the sizes of an accepted plant, and its arrows
+pub record PlantOk (p : Plant) : Type 0 where
+  pub sizes : Sizes (p .states) (p .moves) (p .goals)
+  pub labels-long : length (p .labels) ≡ p .states
+  pub labels-ok : labelsOk (p .goals) (p .labels) ≡ true
+  pub arrows-ok : arrowsOk (p .states) (p .moves) 0 (p .arrows) ≡ true
+
+labels-length : (n : ℕ) (s : List ℕ) → length (labelsFrom n s) ≡ n
+unfolding labelsFrom
+labels-length zero s = refl
+labels-length (suc n) s = ap suc (labels-length n (drop 2 s))
+
+-- an accepted plant's three tests
+pub plant-tests : (s : List ℕ) → plantFault s ≡ 0
+    → let p = plantOf s in
+    (headOk s ≡ true) × (labelsOk (p .goals) (p .labels) ≡ true)
+    × (arrowsOk (p .states) (p .moves) 0 (p .arrows) ≡ true)
+unfolding plantFault
+plant-tests s h =
+    let p = plantOf s in
+    let rest = first-iff (when (not (headOk s)) 1) _ .0 h in
+    let last = first-iff (when (not (labelsOk (p .goals) (p .labels))) 2) _ .0 (rest .1) in
+    (when-iff (headOk s) 0 .0 (rest .0), when-iff _ 1 .0 (last .0), when-iff _ 2 .0 (last .1))
+
+pub plant-ok : (s : List ℕ) → plantFault s ≡ 0 → PlantOk (plantOf s)
+unfolding plantOf headOk
+plant-ok s h =
+    let tests = plant-tests s h in
+    let head = simp and-iff at (tests .0) in
+    record {
+      sizes = omega (arith, leb-true);
+      labels-long = labels-length (word 0 s) (drop 16 s);
+      labels-ok = tests .1;
+      arrows-ok = tests .2;
+    }
+
+-- arrows in range start, move and end in range
+pub arrow-range : (arrows : List Arrow) (s u least x v y : ℕ) → arrowsOk s u least arrows ≡ true
+    → isIn y (endsIn arrows x v) ≡ true → (v < u) × (y < s) × (x < s)
+unfolding arrowsOk endsIn
+arrow-range [] s u least x v y ok h = absurd (isIn-none y h)
+arrow-range (a ∷ rest) s u least x v y ok h =
+    let from-ok = and-left (ltb (a .from) s) _ ok in
+    let after-from = and-right (ltb (a .from) s) _ ok in
+    let move-ok = and-left (ltb (a .move) u) _ after-from in
+    let after-move = and-right (ltb (a .move) u) _ after-from in
+    let to-ok = and-left (ltb (a .to) s) _ after-move in
+    let after-to = and-right (ltb (a .to) s) _ after-move in
+    let rest-ok = and-right (leb least (rank a)) _ after-to in
+    elim (isIn-consIf (eqb (a .from) x && eqb (a .move) v) y (a .to) (endsIn rest x v) h) [
+      | inl e ↦
+          let is-from = and-left (eqb (a .from) x) _ (e .1) in
+          let is-move = and-right (eqb (a .from) x) _ (e .1) in
+          let to-is = e .0 in
+          omega (arith, ltb-true, eqb-true)
+      | inr m ↦ arrow-range rest s u (suc (rank a)) x v y rest-ok m
+    ]
+
+-- a label is 0 past the last state
+pub allowed-below : (p : Plant) → PlantOk p → (x : ℕ) → allowed p x ≡ true → x < p .states
+unfolding allowed bit
+allowed-below p ok x h =
+    elim (decLt x (p .states)) [
+      | yes l ↦ l
+      | no l ↦
+          let past : length (p .labels) ≤ x = omega arith in
+          absurd (true≢false (sym (rw (List·getD-eq-default (p .labels) 0 past) at h)))
+    ]
+
+-- an accepted book's header
+pub record BookOk (b : List ℕ) : Type 0 where
+  pub sizes : Sizes (bookStates b) (bookMoves b) (bookGoals b)
+  pub rows-at : word 6 b ≡ 16
+  pub total : word 7 b ≡ length b
+  pub size : length b ≡ bookLong (bookStates b) (bookGoals b)
+  pub mask-ok : maskOk (bookMoves b) (bookMask b) ≡ true
+  pub head : bookHeadOk b ≡ true
+  pub rows : rowsOk b ≡ true
+
+pub book-ok : (b : List ℕ) → bookFault b ≡ 0 → BookOk b
+unfolding bookFault bookHeadOk
+book-ok b h =
+    let parts = first-iff (when (not (bookHeadOk b)) 4) _ .0 h in
+    let head-ok = when-iff (bookHeadOk b) 3 .0 (parts .0) in
+    let tests = simp and-iff at head-ok in
+    record {
+      sizes = omega (arith, leb-true);
+      rows-at = omega (arith, eqb-true);
+      total = omega (arith, eqb-true);
+      size = omega (arith, eqb-true);
+      mask-ok = search;
+      head = head-ok;
+      rows = when-iff (rowsOk b) 4 .0 (parts .1);
+    }
+
+-- an accepted make
+pub record MakeOk (s : List ℕ) (mask room : ℕ) : Type 0 where
+  pub plant : plantFault s ≡ 0
+  pub mask-ok : maskOk (plantOf s .moves) mask ≡ true
+  pub room-ok : bookRoom (plantOf s) room ≡ true
+
+pub make-ok : (s : List ℕ) (mask room : ℕ) → makeFault s mask room ≡ 0 → MakeOk s mask room
+unfolding makeFault maskFault
+make-ok s mask room h =
+    let p = plantOf s in
+    let all = first-iff (plantFault s) _ .0 h in
+    let later = first-iff (when (not (maskOk (p .moves) mask)) 6) _ .0 (all .1) in
+    record { plant = all .0; mask-ok = when-iff _ 5 .0 (later .0); room-ok = when-iff _ 6 .0 (later .1) }
+
+-- an accepted withdrawal
+pub record WithdrawOk (s b : List ℕ) (gone room drops : ℕ) : Type 0 where
+  pub plant : plantFault s ≡ 0
+  pub book : bookFault b ≡ 0
+  pub states : bookStates b ≡ plantOf s .states
+  pub moves : bookMoves b ≡ plantOf s .moves
+  pub goals : bookGoals b ≡ plantOf s .goals
+  pub mask-ok : maskOk (plantOf s .moves) (bookMask b) ≡ true
+  pub gone-ok : maskOk (plantOf s .moves) gone ≡ true
+  pub room-ok : bookRoom (plantOf s) room ≡ true
+  pub drops-ok : dropRoom (plantOf s) drops ≡ true
+
+pub withdraw-ok : (s b : List ℕ) (gone room drops : ℕ) → withdrawFault s b gone room drops ≡ 0
+    → WithdrawOk s b gone room drops
+unfolding withdrawFault maskFault alike
+withdraw-ok s b gone room drops h =
+    let p = plantOf s in
+    let all = first-iff (plantFault s) _ .0 h in
+    let after-plant = first-iff (when (not (bookHeadOk b && alike p b)) 4) _ .0 (all .1) in
+    let after-head = first-iff (bookFault b) _ .0 (after-plant .1) in
+    let after-book = first-iff (when (not (maskOk (p .moves) gone)) 6) _ .0 (after-head .1) in
+    let same = and-right (bookHeadOk b) (alike p b) (when-iff (bookHeadOk b && alike p b) 3 .0 (after-plant .0)) in
+    let sizes = simp and-iff at same in
+    let rooms = and-iff (bookRoom p room) (dropRoom p drops) .0 (when-iff _ 6 .0 (after-book .1)) in
+    let moves-same : bookMoves b ≡ p .moves = omega (arith, eqb-true) in
+    record {
+      plant = all .0;
+      book = after-head .0;
+      states = omega (arith, eqb-true);
+      moves = moves-same;
+      goals = omega (arith, eqb-true);
+      mask-ok = rw moves-same at (book-ok b (after-head .0) .mask-ok);
+      gone-ok = when-iff _ 5 .0 (after-book .0);
+      room-ok = rooms .0;
+      drops-ok = rooms .1;
+    }
+
+-- once the plant is accepted, a make answers as told from the call alone
+pub make-told : (s : List ℕ) (mask room : ℕ) → plantFault s ≡ 0
+    → makeFault s mask room ≡ toldOf (plantOf s) (makes mask room)
+unfolding makeFault toldOf
+make-told s mask room h = rw h
+
+-- and so does a withdrawal, once the book is accepted and for the plant's numbers of states, moves and goals
+pub withdraw-told : (s b : List ℕ) (gone room drops : ℕ) → plantFault s ≡ 0 → bookFault b ≡ 0
+    → alike (plantOf s) b ≡ true
+    → withdrawFault s b gone room drops ≡ toldOf (plantOf s) (withdraws gone room drops)
+unfolding withdrawFault toldOf
+withdraw-told s b gone room drops h hb same = rw (h, book-ok b hb .head, same, hb)

@@ -1,0 +1,62 @@
+-- The length of a book's bytes, and the eight numbers of its header read back. Assumes nothing.
+use mathlib.Core.Path.{_≡_, refl, sym, _∙_, ap}
+use mathlib.Core.Bool.{Bool, true, false}
+use mathlib.Core.List.{List}
+use Prim.Native.Nat.{ℕ, _*_}
+use native.Mathlib.Omega.{arith}
+use lib.ListN.{length}
+use Rattle.statements.specs.Sets.{pick, isIn}
+use Rattle.statements.specs.Plants.{word, Plant}
+use Rattle.statements.specs.Books.{two, bookLong, entryOf, rowOf, headOf, bookBytes, bookStates, bookMoves, bookGoals}
+use Rattle.statements.specs.Books.{bookCount, bookMask}
+use Rattle.sets.proofs.Joined.{joined-length}
+
+pick-length : (t : Bool) (xs ys : List ℕ) (n : ℕ) → length xs ≡ n → length ys ≡ n → length (pick t xs ys) ≡ n
+pick-length true xs ys n h g = h
+pick-length false xs ys n h g = g
+
+module _ (p : Plant) (mask : ℕ) (kept : List ℕ) where
+  pub entry-length : (x i : ℕ) → length (entryOf p mask kept x i) ≡ 4
+  unfolding entryOf two
+  entry-length x i = pick-length (isIn x kept) _ _ 4 refl refl
+
+  pub row-length : (x : ℕ) → length (rowOf p mask kept x) ≡ p .goals * 4
+  unfolding rowOf
+  row-length x = joined-length (entryOf p mask kept x) 4 (entry-length x) (p .goals) 0
+
+  pub book-length : length (bookBytes p mask kept) ≡ bookLong (p .states) (p .goals)
+  unfolding bookBytes headOf two bookLong
+  book-length = omega (arith, joined-length (rowOf p mask kept) (p .goals * 4) row-length (p .states) 0)
+
+  pub read-states : bookStates (bookBytes p mask kept) ≡ p .states
+  unfolding bookStates bookBytes headOf two word
+  read-states = omega arith
+
+  pub read-moves : bookMoves (bookBytes p mask kept) ≡ p .moves
+  unfolding bookMoves bookBytes headOf two word
+  read-moves = omega arith
+
+  pub read-goals : bookGoals (bookBytes p mask kept) ≡ p .goals
+  unfolding bookGoals bookBytes headOf two word
+  read-goals = omega arith
+
+  pub read-count : bookCount (bookBytes p mask kept) ≡ length kept
+  unfolding bookCount bookBytes headOf two word
+  read-count = omega arith
+
+  pub read-mask : bookMask (bookBytes p mask kept) ≡ mask
+  unfolding bookMask bookBytes headOf two word
+  read-mask = omega arith
+
+  pub read-rows-at : word 6 (bookBytes p mask kept) ≡ 16
+  unfolding bookBytes headOf two word
+  read-rows-at = refl
+
+  pub read-total : word 7 (bookBytes p mask kept) ≡ bookLong (p .states) (p .goals)
+  unfolding bookBytes headOf two word
+  read-total = omega arith
+
+-- equal books have the same moves in service
+pub same-mask : (p : Plant) (mask other : ℕ) (kept others : List ℕ)
+    → bookBytes p mask kept ≡ bookBytes p other others → mask ≡ other
+same-mask p mask other kept others e = sym (read-mask p mask kept) ∙ ap bookMask e ∙ read-mask p other others

@@ -1,0 +1,1 @@
+-- Nothing: the laws are in proofs/.

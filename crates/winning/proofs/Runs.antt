@@ -1,0 +1,171 @@
+-- Runs of a strategy: an opponent who answers every move makes one, a larger set is easier to stay in, and a measure
+-- that falls until something is met has it met. A run is built turn by turn from the strategy's pick and the answer to
+-- it. Assumes nothing.
+use mathlib.Core.Path.{_≡_, refl}
+use mathlib.Core.Logic.{_↔_, _⊎_, inl, inr}
+use mathlib.Core.Bool.{Bool, true, false, _&&_, false≢true}
+use mathlib.Core.List.{List, [], _∷_}
+use Prim.Native.Nat.{ℕ, zero, suc, _+_, _≤_, _<_}
+use native.Mathlib.Omega.{arith}
+use lib.Dec.{leb}
+use lib.ListN.{length}
+use borrow.Author.Tests.{eq-eqb}
+use Rattle.statements.specs.Sets.{bit, isIn}
+use Rattle.statements.specs.Plants.{Plant, ends, available}
+use Rattle.statements.specs.Strategies.{Turn, Strategy, PicksMove, Play, turns, Run}
+use Rattle.statements.specs.Strategies.{Holds-by, Wins-by, Wins, Forces}
+
+-- a list that is not empty has a member
+member : (b : Bool) (ys : List ℕ) → (b && leb 1 (length ys)) ≡ true → (y : ℕ) × (isIn y ys ≡ true)
+unfolding isIn
+member true [] h = absurd (false≢true h)
+member false [] h = absurd (false≢true h)
+member b (y ∷ ys) h = (y, rw (eq-eqb y y refl))
+
+-- an available move has an end
+pub some-end : (p : Plant) (mask x u : ℕ) → available p mask x u ≡ true → (y : ℕ) × (isIn y (ends p x u) ≡ true)
+unfolding available
+some-end p mask x u = member (bit u mask) (ends p x u)
+
+-- a state reached at moment n, the turns that led there, and what is known of it
+record Reached (p : Plant) (mask start : ℕ) (f : Strategy) (Inv : ℕ → Type 0) : Type 0 where
+  past : List Turn
+  state : ℕ
+  play : Play p mask f start past state
+  known : Inv state
+
+-- a run against a strategy, with a fact of each state and one of each two states in turn
+pub record Opposed (p : Plant) (mask start : ℕ) (f : Strategy) (Inv Step : ℕ → ℕ → Type 0) : Type 0 where
+  pub states : ℕ → ℕ
+  pub moves : ℕ → ℕ
+  pub run : Run p mask f start states moves
+  pub known : (n : ℕ) → Inv n (states n)
+  pub step : (n : ℕ) → Step (states n) (states (suc n))
+
+-- an answer to a move made in state x at moment n: an end of the move with the facts, if it is in the set
+abbrev pub Answer : Plant → (ℕ → Type 0) → (ℕ → ℕ → Type 0) → (ℕ → ℕ → Type 0) → ℕ → ℕ → ℕ → Type 0
+Answer p within Inv Step n x u =
+    (y : ℕ) × (isIn y (ends p x u) ≡ true) × (within y → Inv (suc n) y × Step x y)
+
+module _ (p : Plant) (mask : ℕ) (within : ℕ → Type 0) (start : ℕ) (f : Strategy) (Inv Step : ℕ → ℕ → Type 0)
+    (h : Holds-by p mask within start f) (begun : Inv 0 start)
+    (answer : (n x u : ℕ) → within x → Inv n x → available p mask x u ≡ true → Answer p within Inv Step n x u) where
+  -- the strategy's move in a state reached, and the opponent's answer to it
+  pick : (n : ℕ) (q : Reached p mask start f (Inv n)) → PicksMove p mask f (q .past) (q .state)
+  pick n q = h .never-stuck (q .past) (q .state) (q .play)
+
+  reply : (n : ℕ) (q : Reached p mask start f (Inv n)) → Answer p within Inv Step n (q .state) (pick n q .0)
+  reply n q = answer n (q .state) (pick n q .0) (h .stays (q .past) (q .state) (q .play)) (q .known) (pick n q .2)
+
+  -- the turns after that, which make a play
+  turned : (n : ℕ) → Reached p mask start f (Inv n) → List Turn
+  turned n q = record { state = q .state; move = pick n q .0 } ∷ q .past
+
+  onward : (n : ℕ) (q : Reached p mask start f (Inv n)) → Play p mask f start (turned n q) (reply n q .0)
+  unfolding turned
+  onward n q = (q .play, pick n q .1, pick n q .2, reply n q .1)
+
+  -- what is known of the answer
+  facts : (n : ℕ) (q : Reached p mask start f (Inv n)) → Inv (suc n) (reply n q .0) × Step (q .state) (reply n q .0)
+  facts n q = reply n q .2 (h .stays (turned n q) (reply n q .0) (onward n q))
+
+  -- the state reached at each moment, and that its turns are those of the sequence
+  reached : (n : ℕ) → Reached p mask start f (Inv n)
+  reached zero = record { past = []; state = start; play = refl; known = begun }
+  reached (suc n) =
+      let q = reached n in
+      record { past = turned n q; state = reply n q .0; play = onward n q; known = facts n q .0 }
+
+  pasts : (n : ℕ) → turns (λ k. reached k .state) (λ k. pick k (reached k) .0) n ≡ reached n .past
+  unfolding reached turned turns
+  pasts zero = refl
+  pasts (suc n) = rw (pasts n)
+
+  -- an opponent who answers every available move so that a fact stays true makes a run on which it is true
+  pub opposed : Opposed p mask start f Inv Step
+  unfolding reached
+  opposed =
+      record {
+        states = λ n. reached n .state;
+        moves = λ n. pick n (reached n) .0;
+        run = λ n. rw (pasts n) (reached n .play);
+        known = λ n. reached n .known;
+        step = λ n. facts n (reached n) .1;
+      }
+
+module _ (p : Plant) (mask : ℕ) (within more : ℕ → Type 0) (larger : (y : ℕ) → within y → more y) (x : ℕ) where
+  -- a strategy that holds within a set holds within a larger one
+  pub holds-larger : (f : Strategy) → Holds-by p mask within x f → Holds-by p mask more x f
+  holds-larger f h =
+      record { never-stuck = h .never-stuck; stays = λ past y play. larger y (h .stays past y play) }
+
+  -- a strategy that wins within a set wins within a larger one
+  pub wins-by-larger : (f : Strategy) → Wins-by p mask within x f → Wins-by p mask more x f
+  wins-by-larger f w = record { holds = holds-larger f (w .holds); again = w .again }
+
+  -- where a strategy wins within a set, one wins within a larger one
+  pub wins-larger : Wins p mask within x → Wins p mask more x
+  wins-larger w = (w .0, wins-by-larger (w .0) (w .1))
+
+  -- where a strategy forces a goal in time within a set, one does within a larger one
+  pub forces-larger : (i n : ℕ) → Forces p mask within x i n → Forces p mask more x i n
+  forces-larger i n w = (w .0, record { holds = holds-larger (w .0) (w .1 .holds); in-time = w .1 .in-time })
+
+module _ (p : Plant) (mask : ℕ) (within other : ℕ → Type 0) (same : (y : ℕ) → within y ↔ other y) (x : ℕ) where
+  -- a strategy wins within a set exactly when one wins within another set of the same states
+  pub wins-same : Wins p mask within x ↔ Wins p mask other x
+  wins-same =
+      (wins-larger p mask within other (λ y. same y .0) x, wins-larger p mask other within (λ y. same y .1) x)
+
+  -- and forces a goal in time exactly when one does there
+  pub forces-same : (i n : ℕ) → Forces p mask within x i n ↔ Forces p mask other x i n
+  forces-same i n = (
+    forces-larger p mask within other (λ y. same y .0) x i n,
+    forces-larger p mask other within (λ y. same y .1) x i n,
+  )
+
+-- a state from which a strategy wins without leaving a set is in the set
+pub wins-within : (p : Plant) (mask : ℕ) (within : ℕ → Type 0) (x : ℕ) → Wins p mask within x → within x
+wins-within p mask within x w = w .1 .holds .stays [] x refl
+
+-- a measure that falls at every moment until something is met has it met within as many moments
+pub falls :
+    (met : ℕ → Type 0) (μ : ℕ → ℕ) → ((n : ℕ) → met n ⊎ (μ (suc n) < μ n)) →
+    (n : ℕ) → (m : ℕ) × (n ≤ m) × (m ≤ n + μ n) × met m
+falls met μ step n = go (suc (μ n)) n (omega arith)
+  where
+    go : (k n : ℕ) → μ n < k → (m : ℕ) × (n ≤ m) × (m ≤ n + μ n) × met m
+    go zero n h = absurd (omega arith)
+    go (suc k) n h =
+        elim (step n) [
+          | inl e ↦ (n, omega arith, omega arith, e)
+          | inr l ↦
+              let r = go k (suc n) (omega arith) in
+              (r .0, omega arith, omega arith, r .3)
+        ]
+
+-- it is met, too, where the measure may rise whenever another one falls that never rises
+pub falls-by-two :
+    (met : ℕ → Type 0) (far wait : ℕ → ℕ) →
+    ((n : ℕ) → met n ⊎ ((far (suc n) < far n) ⊎ ((far (suc n) ≡ far n) × (wait (suc n) < wait n)))) →
+    (n : ℕ) → (m : ℕ) × (n ≤ m) × met m
+falls-by-two met far wait step n = nearing (suc (far n)) n (omega arith)
+  where
+    waiting :
+        (d : ℕ) → ((n : ℕ) → far n < d → (m : ℕ) × (n ≤ m) × met m) →
+        (w n : ℕ) → far n ≤ d → wait n < w → (m : ℕ) × (n ≤ m) × met m
+    waiting d lower zero n h l = absurd (omega arith)
+    waiting d lower (suc w) n h l =
+        elim (step n) [
+          | inl e ↦ (n, omega arith, e)
+          | inr (inl c) ↦
+              let r = lower (suc n) (omega arith) in
+              (r .0, omega arith, r .2)
+          | inr (inr c) ↦
+              let r = waiting d lower w (suc n) (omega arith) (omega arith) in
+              (r .0, omega arith, r .2)
+        ]
+
+    nearing : (d n : ℕ) → far n < d → (m : ℕ) × (n ≤ m) × met m
+    nearing zero n h = absurd (omega arith)
+    nearing (suc d) n h = waiting d (nearing d) (suc (wait n)) n (omega arith) (omega arith)

@@ -1,0 +1,1 @@
+-- No definitions of its own: the laws in proofs/ are over those of statements.

@@ -1,0 +1,1 @@
+// No functions: laws of strategies in proofs/.
