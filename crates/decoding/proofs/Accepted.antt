@@ -49,7 +49,8 @@ module _ (p : Plant) (mask : ℕ) (kept : List ℕ) (fits : Fits p mask kept) wh
             rw h (every-none (bookGoals b) 0 test 0 (omega arith) (omega arith) (rw unmarked))
         | inr h ↦ rw h (every-all (bookGoals b) 0 test λ i low high.
             let hi : i < p .goals = omega (arith, read-goals p mask kept) in
-            and-true (eq-eqb _ _ (wait-lost p mask kept x i hx hi h)) (eq-eqb _ _ (move-lost p mask kept x i hx hi h)))
+            and-true (eq-eqb _ _ (wait-lost p mask kept x i hx hi h))
+            (eq-eqb _ _ (move-lost p mask kept x i hx hi h)))
       ]
 
   pub book-kept : bookKept (bookBytes p mask kept) ≡ kept

@@ -50,45 +50,54 @@ available-more p m n x u w h =
     and-true (w u (and-left (bit u m) c h)) (and-right (bit u m) c h)
 
 -- a move that goes into a set is available and all its ends are in the set
-pub into-available : (p : Plant) (mask : ℕ) (ys : List ℕ) (x u : ℕ) → goesInto p mask ys x u ≡ true → available p mask x u ≡ true
+pub into-available : (p : Plant) (mask : ℕ) (ys : List ℕ) (x u : ℕ) → goesInto p mask ys x u ≡ true →
+    available p mask x u ≡ true
 unfolding goesInto
 into-available p mask ys x u h = and-left (available p mask x u) (allIn (ends p x u) ys) h
 
-pub into-ends : (p : Plant) (mask : ℕ) (ys : List ℕ) (x u : ℕ) → goesInto p mask ys x u ≡ true → (y : ℕ) → isIn y (ends p x u) ≡ true → isIn y ys ≡ true
+pub into-ends : (p : Plant) (mask : ℕ) (ys : List ℕ) (x u : ℕ) → goesInto p mask ys x u ≡ true → (y : ℕ) →
+    isIn y (ends p x u) ≡ true → isIn y ys ≡ true
 unfolding goesInto
 into-ends p mask ys x u h = allIn-at (ends p x u) ys (and-right (available p mask x u) (allIn (ends p x u) ys) h)
 
-pub into-all : (p : Plant) (mask : ℕ) (ys : List ℕ) (x u : ℕ) → available p mask x u ≡ true → ((y : ℕ) → isIn y (ends p x u) ≡ true → isIn y ys ≡ true) → goesInto p mask ys x u ≡ true
+pub into-all : (p : Plant) (mask : ℕ) (ys : List ℕ) (x u : ℕ) → available p mask x u ≡ true →
+    ((y : ℕ) → isIn y (ends p x u) ≡ true → isIn y ys ≡ true) → goesInto p mask ys x u ≡ true
 unfolding goesInto
 into-all p mask ys x u a f = and-true a (allIn-all (ends p x u) ys f)
 
 -- the lowest such move, where there is one
-pub can-move : (p : Plant) (mask : ℕ) (ys : List ℕ) (x : ℕ) → can p mask ys x ≡ true → (moveInto p mask ys x < p .moves) × (goesInto p mask ys x (moveInto p mask ys x) ≡ true)
+pub can-move : (p : Plant) (mask : ℕ) (ys : List ℕ) (x : ℕ) → can p mask ys x ≡ true →
+    (moveInto p mask ys x < p .moves) × (goesInto p mask ys x (moveInto p mask ys x) ≡ true)
 unfolding can moveInto
 can-move p mask ys x h =
     let l = ltb-true (first (p .moves) 0 (goesInto p mask ys x)) (p .moves) h in
     (l, first-holds (p .moves) 0 (goesInto p mask ys x) (omega arith))
 
-pub move-lowest : (p : Plant) (mask : ℕ) (ys : List ℕ) (x u : ℕ) → u < moveInto p mask ys x → goesInto p mask ys x u ≡ false
+pub move-lowest : (p : Plant) (mask : ℕ) (ys : List ℕ) (x u : ℕ) → u < moveInto p mask ys x →
+    goesInto p mask ys x u ≡ false
 unfolding moveInto
 move-lowest p mask ys x u h = first-before (p .moves) 0 (goesInto p mask ys x) u (omega arith) h
 
-pub can-by : (p : Plant) (mask : ℕ) (ys : List ℕ) (x u : ℕ) → u < p .moves → goesInto p mask ys x u ≡ true → can p mask ys x ≡ true
+pub can-by : (p : Plant) (mask : ℕ) (ys : List ℕ) (x u : ℕ) → u < p .moves → goesInto p mask ys x u ≡ true →
+    can p mask ys x ≡ true
 unfolding can moveInto
 can-by p mask ys x u l h =
     let k = first-least (p .moves) 0 (goesInto p mask ys x) u (omega arith) (omega arith) h in
     lt-ltb (first (p .moves) 0 (goesInto p mask ys x)) (p .moves) (omega arith)
 
 -- more moves in service and a larger set
-pub can-more : (p : Plant) (m n : ℕ) (ys zs : List ℕ) (x : ℕ) → MaskWithin m n → Sub ys zs → can p m ys x ≡ true → can p n zs x ≡ true
+pub can-more : (p : Plant) (m n : ℕ) (ys zs : List ℕ) (x : ℕ) → MaskWithin m n → Sub ys zs → can p m ys x ≡ true →
+    can p n zs x ≡ true
 can-more p m n ys zs x w s h =
     let u = moveInto p m ys x in
     let r = can-move p m ys x h in
     can-by p n zs x u (r .0)
-    (into-all p n zs x u (available-more p m n x u w (into-available p m ys x u (r .1))) (λ y e. s y (into-ends p m ys x u (r .1) y e)))
+    (into-all p n zs x u (available-more p m n x u w (into-available p m ys x u (r .1)))
+    (λ y e. s y (into-ends p m ys x u (r .1) y e)))
 
 -- where no move goes into the set, each available one has an end outside
-pub can-not : (p : Plant) (mask : ℕ) (ys : List ℕ) (x u : ℕ) → MovesBelow p → can p mask ys x ≡ false → available p mask x u ≡ true → (y : ℕ) × (isIn y (ends p x u) ≡ true) × (isIn y ys ≡ false)
+pub can-not : (p : Plant) (mask : ℕ) (ys : List ℕ) (x u : ℕ) → MovesBelow p → can p mask ys x ≡ false →
+    available p mask x u ≡ true → (y : ℕ) × (isIn y (ends p x u) ≡ true) × (isIn y ys ≡ false)
 unfolding goesInto
 can-not p mask ys x u b h a =
     ⊎-elim

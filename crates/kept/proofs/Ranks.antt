@@ -40,13 +40,19 @@ module _ (p : Plant) (mask : ℕ) (within : ℕ → Bool) where
   -- a state that some round does not hold
   cut-by : (n x : ℕ) → n < p .states → isIn x (keptRound (suc n) p mask within) ≡ false → roundOf x ≤ n
   unfolding roundOf
-  cut-by n x l h = first-least (p .states) 0 (λ k. not (isIn x (keptRound (suc k) p mask within))) n (omega arith) (omega arith) (is-not (isIn x (keptRound (suc n) p mask within)) h)
+  cut-by n x l h =
+      first-least (p .states) 0 (λ k. not (isIn x (keptRound (suc k) p mask within))) n (omega arith) (omega arith)
+      (is-not (isIn x (keptRound (suc n) p mask within)) h)
 
-  missed-by : (n i x : ℕ) → i < p .goals → isIn x (forced p mask (keptRound n p mask within) i) ≡ false → missed n x ≤ i
+  missed-by : (n i x : ℕ) → i < p .goals → isIn x (forced p mask (keptRound n p mask within) i) ≡ false →
+      missed n x ≤ i
   unfolding missed
-  missed-by n i x l h = first-least (p .goals) 0 (λ k. not (isIn x (forced p mask (keptRound n p mask within) k))) i (omega arith) (omega arith) (is-not (isIn x (forced p mask (keptRound n p mask within) i)) h)
+  missed-by n i x l h =
+      first-least (p .goals) 0 (λ k. not (isIn x (forced p mask (keptRound n p mask within) k))) i (omega arith)
+      (omega arith) (is-not (isIn x (forced p mask (keptRound n p mask within) i)) h)
 
-  module _ (x : ℕ) (below : x < p .states) (allows : within x ≡ true) (out : isIn x (keptWithin p mask within) ≡ false) where
+  module _ (x : ℕ) (below : x < p .states) (allows : within x ≡ true)
+      (out : isIn x (keptWithin p mask within) ≡ false) where
     cut-range : roundOf x < p .states
     unfolding keptWithin
     cut-range =
@@ -56,7 +62,10 @@ module _ (p : Plant) (mask : ℕ) (within : ℕ → Bool) where
 
     cut-after : isIn x (keptRound (suc (roundOf x)) p mask within) ≡ false
     unfolding roundOf
-    cut-after = not-true (isIn x (keptRound (suc (roundOf x)) p mask within)) (first-holds (p .states) 0 (λ n. not (isIn x (keptRound (suc n) p mask within))) (let l = cut-range in omega arith))
+    cut-after =
+        not-true (isIn x (keptRound (suc (roundOf x)) p mask within))
+        (first-holds (p .states) 0 (λ n. not (isIn x (keptRound (suc n) p mask within)))
+        (let l = cut-range in omega arith))
 
     still-in : isIn x (keptRound (roundOf x) p mask within) ≡ true
     unfolding roundOf
@@ -64,18 +73,33 @@ module _ (p : Plant) (mask : ℕ) (within : ℕ → Bool) where
       where
         go : (n : ℕ) → n ≤ roundOf x → isIn x (keptRound n p mask within) ≡ true
         go zero l = round-zero p mask within x below allows
-        go (suc n) l = not-false (isIn x (keptRound (suc n) p mask within)) (first-before (p .states) 0 (λ k. not (isIn x (keptRound (suc k) p mask within))) n (omega arith) l)
+        go (suc n) l =
+            not-false (isIn x (keptRound (suc n) p mask within))
+            (first-before (p .states) 0 (λ k. not (isIn x (keptRound (suc k) p mask within))) n (omega arith) l)
 
     missed-range : missed (roundOf x) x < p .goals
     unfolding missed
-    missed-range = ⊎-elim (λ e. ltb-true (missed (roundOf x) x) (p .goals) e) (λ e. absurd (not-both (rw (round-suc p mask within (roundOf x)) (forcedAll-in (p .goals) p mask (keptRound (roundOf x) p mask within) x still-in (each (ltb-false (missed (roundOf x) x) (p .goals) e)))) cut-after)) (decided (ltb (missed (roundOf x) x) (p .goals)))
+    missed-range =
+        ⊎-elim (λ e. ltb-true (missed (roundOf x) x) (p .goals) e)
+        (λ e. absurd (not-both
+        (rw (round-suc p mask within (roundOf x))
+        (forcedAll-in (p .goals) p mask (keptRound (roundOf x) p mask within) x still-in
+        (each (ltb-false (missed (roundOf x) x) (p .goals) e)))) cut-after))
+        (decided (ltb (missed (roundOf x) x) (p .goals)))
       where
-        each : p .goals ≤ missed (roundOf x) x → (i : ℕ) → i < p .goals → isIn x (forced p mask (keptRound (roundOf x) p mask within) i) ≡ true
-        each l i h = not-false (isIn x (forced p mask (keptRound (roundOf x) p mask within) i)) (first-before (p .goals) 0 (λ k. not (isIn x (forced p mask (keptRound (roundOf x) p mask within) k))) i (omega arith) (omega arith))
+        each : p .goals ≤ missed (roundOf x) x → (i : ℕ) → i < p .goals →
+            isIn x (forced p mask (keptRound (roundOf x) p mask within) i) ≡ true
+        each l i h =
+            not-false (isIn x (forced p mask (keptRound (roundOf x) p mask within) i))
+            (first-before (p .goals) 0 (λ k. not (isIn x (forced p mask (keptRound (roundOf x) p mask within) k))) i
+            (omega arith) (omega arith))
 
     missed-goal : isIn x (forced p mask (keptRound (roundOf x) p mask within) (missed (roundOf x) x)) ≡ false
     unfolding missed
-    missed-goal = not-true (isIn x (forced p mask (keptRound (roundOf x) p mask within) (missed (roundOf x) x))) (first-holds (p .goals) 0 (λ k. not (isIn x (forced p mask (keptRound (roundOf x) p mask within) k))) (let l = missed-range in omega arith))
+    missed-goal =
+        not-true (isIn x (forced p mask (keptRound (roundOf x) p mask within) (missed (roundOf x) x)))
+        (first-holds (p .goals) 0 (λ k. not (isIn x (forced p mask (keptRound (roundOf x) p mask within) k)))
+        (let l = missed-range in omega arith))
 
     goal-is : goalOf (rankOf x) ≡ missed (roundOf x) x
     unfolding goalOf rankOf
@@ -85,18 +109,23 @@ module _ (p : Plant) (mask : ℕ) (within : ℕ → Bool) where
     goal-range = rw goal-is missed-range
 
   -- a state cut in an earlier round has a lower rank
-  earlier : (x y : ℕ) → (lx : x < p .states) (wx : within x ≡ true) (ox : isIn x (keptWithin p mask within) ≡ false) → (ly : y < p .states) (wy : within y ≡ true) (oy : isIn y (keptWithin p mask within) ≡ false) → roundOf y < roundOf x → rankOf y < rankOf x
+  earlier : (x y : ℕ) → (lx : x < p .states) (wx : within x ≡ true) (ox : isIn x (keptWithin p mask within) ≡ false) →
+      (ly : y < p .states) (wy : within y ≡ true) (oy : isIn y (keptWithin p mask within) ≡ false) →
+      roundOf y < roundOf x → rankOf y < rankOf x
   unfolding rankOf
   earlier x y lx wx ox ly wy oy h =
       omega (arith, missed-range y ly wy oy, mul-le-mul-right (p .goals) h)
 
   -- what a round does not hold is not kept
-  not-kept : (n y : ℕ) → n ≤ p .states → isIn y (keptRound n p mask within) ≡ false → isIn y (keptWithin p mask within) ≡ false
+  not-kept : (n y : ℕ) → n ≤ p .states → isIn y (keptRound n p mask within) ≡ false →
+      isIn y (keptWithin p mask within) ≡ false
   unfolding keptWithin
   not-kept n y l h =
-      ⊎-elim (λ k. absurd (not-both (round-later p mask within n (p .states) l y k) h)) (λ e. e) (decided (isIn y (keptRound (p .states) p mask within)))
+      ⊎-elim (λ k. absurd (not-both (round-later p mask within n (p .states) l y k) h)) (λ e. e)
+      (decided (isIn y (keptRound (p .states) p mask within)))
 
-  cut-earlier : (n y : ℕ) → n ≤ p .states → y < p .states → within y ≡ true → isIn y (keptRound n p mask within) ≡ false → roundOf y < n
+  cut-earlier : (n y : ℕ) → n ≤ p .states → y < p .states → within y ≡ true →
+      isIn y (keptRound n p mask within) ≡ false → roundOf y < n
   cut-earlier zero y l ly wy h = absurd (not-both (round-zero p mask within y ly wy) h)
   cut-earlier (suc n) y l ly wy h = let c = cut-by n y l h in omega arith
 
@@ -106,7 +135,11 @@ module _ (p : Plant) (mask : ℕ) (within : ℕ → Bool) where
   no-higher x y e m = rw e (omega arith)
 
   -- the opponent's answer to an available move
-  pub escape : MovesBelow p → ((y : ℕ) → within y ≡ true → y < p .states) → (x u : ℕ) → within x ≡ true → isIn x (keptWithin p mask within) ≡ false → available p mask x u ≡ true → (y : ℕ) × (isIn y (ends p x u) ≡ true) × (within y ≡ true → (isIn y (keptWithin p mask within) ≡ false) × (rankOf y ≤ rankOf x) × (inGoal p (goalOf (rankOf x)) x ≡ true → rankOf y < rankOf x))
+  pub escape : MovesBelow p → ((y : ℕ) → within y ≡ true → y < p .states) → (x u : ℕ) → within x ≡ true →
+      isIn x (keptWithin p mask within) ≡ false → available p mask x u ≡ true →
+      (y : ℕ) × (isIn y (ends p x u) ≡ true) ×
+      (within y ≡ true → (isIn y (keptWithin p mask within) ≡ false) × (rankOf y ≤ rankOf x) ×
+      (inGoal p (goalOf (rankOf x)) x ≡ true → rankOf y < rankOf x))
   escape b range x u wx ox a =
       ⊎-elim served unserved (decided (inGoal p (missed n x) x))
     where
@@ -117,7 +150,9 @@ module _ (p : Plant) (mask : ℕ) (within : ℕ → Bool) where
       n = roundOf x
 
       Answer : Type 0
-      Answer = (y : ℕ) × (isIn y (ends p x u) ≡ true) × (within y ≡ true → (isIn y (keptWithin p mask within) ≡ false) × (rankOf y ≤ rankOf x) × (inGoal p (goalOf (rankOf x)) x ≡ true → rankOf y < rankOf x))
+      Answer = (y : ℕ) × (isIn y (ends p x u) ≡ true) ×
+          (within y ≡ true → (isIn y (keptWithin p mask within) ≡ false) × (rankOf y ≤ rankOf x) ×
+          (inGoal p (goalOf (rankOf x)) x ≡ true → rankOf y < rankOf x))
 
       n≤ : n ≤ p .states
       n≤ = let l = cut-range x lx wx ox in omega arith
@@ -125,27 +160,51 @@ module _ (p : Plant) (mask : ℕ) (within : ℕ → Bool) where
       served : inGoal p (missed n x) x ≡ true → Answer
       served g =
           ⊎-elim
-          (λ c. absurd (not-both (forced-target p mask (keptRound n p mask within) (missed n x) x (target-in p mask (keptRound n p mask within) (missed n x) x (still-in x lx wx ox) g c)) (missed-goal x lx wx ox)))
-          (λ c. let r = can-not p mask (keptRound n p mask within) x u b c a in (r .0, r .1, λ wy. let oy = not-kept n (r .0) n≤ (r .2) in let ly = range (r .0) wy in let q = earlier x (r .0) lx wx ox ly wy oy (cut-earlier n (r .0) n≤ ly wy (r .2)) in (oy, omega arith, λ h. q)))
+          (λ c. absurd
+          (not-both (forced-target p mask (keptRound n p mask within) (missed n x) x
+          (target-in p mask (keptRound n p mask within) (missed n x) x (still-in x lx wx ox) g c))
+          (missed-goal x lx wx ox)))
+          (λ c. let r = can-not p mask (keptRound n p mask within) x u b c a in (
+            r .0,
+            r .1,
+            λ wy. let oy = not-kept n (r .0) n≤ (r .2) in let ly = range (r .0) wy in
+                let q = earlier x (r .0) lx wx ox ly wy oy (cut-earlier n (r .0) n≤ ly wy (r .2)) in
+                (oy, omega arith, λ h. q),
+          ))
           (decided (can p mask (keptRound n p mask within) x))
 
-      unforced : (y : ℕ) → isIn y (forced p mask (keptRound n p mask within) (missed n x)) ≡ false → isIn y (keptRound (suc n) p mask within) ≡ false
+      unforced : (y : ℕ) → isIn y (forced p mask (keptRound n p mask within) (missed n x)) ≡ false →
+          isIn y (keptRound (suc n) p mask within) ≡ false
       unforced y h =
           ⊎-elim
-          (λ k. absurd (not-both (forcedAll-holds (p .goals) p mask (keptRound n p mask within) y (rw (round-suc p mask within n) at k) .1 (missed n x) (missed-range x lx wx ox)) h))
+          (λ k. absurd
+          (not-both (forcedAll-holds (p .goals) p mask (keptRound n p mask within) y
+          (rw (round-suc p mask within n) at k) .1 (missed n x) (missed-range x lx wx ox)) h))
           (λ e. e)
           (decided (isIn y (keptRound (suc n) p mask within)))
 
-      lower : (y : ℕ) → y < p .states → within y ≡ true → isIn y (keptWithin p mask within) ≡ false → isIn y (forced p mask (keptRound n p mask within) (missed n x)) ≡ false → rankOf y ≤ rankOf x
+      lower : (y : ℕ) → y < p .states → within y ≡ true → isIn y (keptWithin p mask within) ≡ false →
+          isIn y (forced p mask (keptRound n p mask within) (missed n x)) ≡ false → rankOf y ≤ rankOf x
       lower y ly wy oy h =
           ⊎-elim
           (λ e. no-higher x y e (missed-by n (missed n x) y (missed-range x lx wx ox) h))
-          (λ d. let q = earlier x y lx wx ox ly wy oy (let c = cut-by n y (cut-range x lx wx ox) (unforced y h) in omega arith) in omega arith)
+          (λ d. let q = earlier x y lx wx ox ly wy oy
+          (let c = cut-by n y (cut-range x lx wx ox) (unforced y h) in omega arith) in omega arith)
           (same-number (roundOf y) (roundOf x))
 
       unserved : inGoal p (missed n x) x ≡ false → Answer
       unserved g =
           ⊎-elim
-          (λ c. absurd (not-both (forced-closed p mask (keptRound n p mask within) (missed n x) x (still-in x lx wx ox) c) (missed-goal x lx wx ox)))
-          (λ c. let r = can-not p mask (forced p mask (keptRound n p mask within) (missed n x)) x u b c a in (r .0, r .1, λ wy. let oy = not-kept (suc n) (r .0) (cut-range x lx wx ox) (unforced (r .0) (r .2)) in (oy, lower (r .0) (range (r .0) wy) wy oy (r .2), λ h. absurd (not-both (rw (goal-is x lx wx ox) at h) g))))
+          (λ c. absurd
+          (not-both (forced-closed p mask (keptRound n p mask within) (missed n x) x (still-in x lx wx ox) c)
+          (missed-goal x lx wx ox)))
+          (λ c. let r = can-not p mask (forced p mask (keptRound n p mask within) (missed n x)) x u b c a in (
+            r .0,
+            r .1,
+            λ wy. let oy = not-kept (suc n) (r .0) (cut-range x lx wx ox) (unforced (r .0) (r .2)) in (
+              oy,
+              lower (r .0) (range (r .0) wy) wy oy (r .2),
+              λ h. absurd (not-both (rw (goal-is x lx wx ox) at h) g),
+            ),
+          ))
           (decided (can p mask (forced p mask (keptRound n p mask within) (missed n x)) x))

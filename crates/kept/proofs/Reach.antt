@@ -17,7 +17,8 @@ use Rattle.kept.proofs.Moves.{Sub, MaskWithin, can-more}
 
 module _ (p : Plant) (mask : ℕ) (all : List ℕ) where
   -- one step
-  pub grown-holds : (ys : List ℕ) (x : ℕ) → isIn x (grown p mask all ys) ≡ true → (isIn x all ≡ true) × ((isIn x ys ≡ true) ⊎ (can p mask ys x ≡ true))
+  pub grown-holds : (ys : List ℕ) (x : ℕ) → isIn x (grown p mask all ys) ≡ true →
+      (isIn x all ≡ true) × ((isIn x ys ≡ true) ⊎ (can p mask ys x ≡ true))
   unfolding grown
   grown-holds ys x h =
       let r = filter-holds (λ z. isIn z ys || can p mask ys z) all x h in
@@ -25,11 +26,14 @@ module _ (p : Plant) (mask : ℕ) (all : List ℕ) where
 
   pub grown-same : (ys : List ℕ) (x : ℕ) → isIn x all ≡ true → isIn x ys ≡ true → isIn x (grown p mask all ys) ≡ true
   unfolding grown
-  grown-same ys x a h = filter-in (λ z. isIn z ys || can p mask ys z) all x a (or-left (isIn x ys) (can p mask ys x) h)
+  grown-same ys x a h =
+      filter-in (λ z. isIn z ys || can p mask ys z) all x a (or-left (isIn x ys) (can p mask ys x) h)
 
-  pub grown-can : (ys : List ℕ) (x : ℕ) → isIn x all ≡ true → can p mask ys x ≡ true → isIn x (grown p mask all ys) ≡ true
+  pub grown-can : (ys : List ℕ) (x : ℕ) → isIn x all ≡ true → can p mask ys x ≡ true →
+      isIn x (grown p mask all ys) ≡ true
   unfolding grown
-  grown-can ys x a h = filter-in (λ z. isIn z ys || can p mask ys z) all x a (or-right (isIn x ys) (can p mask ys x) h)
+  grown-can ys x a h =
+      filter-in (λ z. isIn z ys || can p mask ys z) all x a (or-right (isIn x ys) (can p mask ys x) h)
 
   grown-sifted : (ys : List ℕ) → Sifted all ys → Sifted all (grown p mask all ys)
   unfolding grown
@@ -40,42 +44,51 @@ module _ (p : Plant) (mask : ℕ) (all : List ℕ) where
     pub steps-sifted : (n : ℕ) → Sifted all (iterate n (grown p mask all) start)
     steps-sifted n = iterate-sifted all start (grown p mask all) begins grown-sifted n
 
-    pub steps-full : (n : ℕ) → length all ≤ n + length start → grown p mask all (iterate n (grown p mask all) start) ≡ iterate n (grown p mask all) start
+    pub steps-full : (n : ℕ) → length all ≤ n + length start →
+        grown p mask all (iterate n (grown p mask all) start) ≡ iterate n (grown p mask all) start
     steps-full n h =
         grown-full all start (grown p mask all) begins grown-sifted
         (λ ys s x m. grown-same ys x (sifted-member all ys s x m) m) n h
 
     pub steps-more : (n : ℕ) → Sub (iterate n (grown p mask all) start) (iterate (suc n) (grown p mask all) start)
     unfolding iterate
-    steps-more n x h = grown-same (iterate n (grown p mask all) start) x (sifted-member all (iterate n (grown p mask all) start) (steps-sifted n) x h) h
+    steps-more n x h =
+        grown-same (iterate n (grown p mask all) start) x
+        (sifted-member all (iterate n (grown p mask all) start) (steps-sifted n) x h) h
 
     pub steps-start : (n : ℕ) → Sub start (iterate n (grown p mask all) start)
     unfolding iterate
     steps-start zero x h = h
     steps-start (suc n) x h = steps-more n x (steps-start n x h)
 
-    pub steps-later : (n m : ℕ) → n ≤ m → Sub (iterate n (grown p mask all) start) (iterate m (grown p mask all) start)
+    pub steps-later : (n m : ℕ) → n ≤ m →
+        Sub (iterate n (grown p mask all) start) (iterate m (grown p mask all) start)
     steps-later n zero l x h = let e : n ≡ 0 = omega arith in rw e at h
     steps-later n (suc m) l x h =
         ⊎-elim (λ e. rw e at h) (λ d. steps-more m x (steps-later n m (omega arith) x h)) (same-number n (suc m))
 
   -- what contains the target and is closed contains every step
-  pub steps-least : (start zs : List ℕ) → Sub start zs → ((x : ℕ) → isIn x all ≡ true → can p mask zs x ≡ true → isIn x zs ≡ true) → (n : ℕ) → Sub (iterate n (grown p mask all) start) zs
+  pub steps-least : (start zs : List ℕ) → Sub start zs →
+      ((x : ℕ) → isIn x all ≡ true → can p mask zs x ≡ true → isIn x zs ≡ true) → (n : ℕ) →
+      Sub (iterate n (grown p mask all) start) zs
   unfolding iterate
   steps-least start zs b c zero x h = b x h
   steps-least start zs b c (suc n) x h =
       let r = grown-holds (iterate n (grown p mask all) start) x h in
       let ih = steps-least start zs b c n in
-      ⊎-elim (λ m. ih x m) (λ m. c x (r .0) (can-more p mask mask (iterate n (grown p mask all) start) zs x (λ u e. e) ih m)) (r .1)
+      ⊎-elim (λ m. ih x m)
+      (λ m. c x (r .0) (can-more p mask mask (iterate n (grown p mask all) start) zs x (λ u e. e) ih m)) (r .1)
 
   -- a state in goal i that can go on
-  pub target-holds : (i x : ℕ) → isIn x (target p mask all i) ≡ true → (isIn x all ≡ true) × (inGoal p i x ≡ true) × (can p mask all x ≡ true)
+  pub target-holds : (i x : ℕ) → isIn x (target p mask all i) ≡ true →
+      (isIn x all ≡ true) × (inGoal p i x ≡ true) × (can p mask all x ≡ true)
   unfolding target
   target-holds i x h =
       let r = filter-holds (λ z. inGoal p i z && can p mask all z) all x h in
       (r .0, and-left (inGoal p i x) (can p mask all x) (r .1), and-right (inGoal p i x) (can p mask all x) (r .1))
 
-  pub target-in : (i x : ℕ) → isIn x all ≡ true → inGoal p i x ≡ true → can p mask all x ≡ true → isIn x (target p mask all i) ≡ true
+  pub target-in : (i x : ℕ) → isIn x all ≡ true → inGoal p i x ≡ true → can p mask all x ≡ true →
+      isIn x (target p mask all i) ≡ true
   unfolding target
   target-in i x a g c = filter-in (λ z. inGoal p i z && can p mask all z) all x a (and-true g c)
 
@@ -92,13 +105,15 @@ module _ (p : Plant) (mask : ℕ) (all : List ℕ) where
   unfolding forced
   forced-target i = steps-start (target p mask all i) (target-sifted i) (length all)
 
-  pub forced-closed : (i x : ℕ) → isIn x all ≡ true → can p mask (forced p mask all i) x ≡ true → isIn x (forced p mask all i) ≡ true
+  pub forced-closed : (i x : ℕ) → isIn x all ≡ true → can p mask (forced p mask all i) x ≡ true →
+      isIn x (forced p mask all i) ≡ true
   unfolding forced
   forced-closed i x a h =
       rw (← steps-full (target p mask all i) (target-sifted i) (length all) (omega arith))
       (grown-can (iterate (length all) (grown p mask all) (target p mask all i)) x a h)
 
-  pub forced-least : (i : ℕ) (zs : List ℕ) → Sub (target p mask all i) zs → ((x : ℕ) → isIn x all ≡ true → can p mask zs x ≡ true → isIn x zs ≡ true) → Sub (forced p mask all i) zs
+  pub forced-least : (i : ℕ) (zs : List ℕ) → Sub (target p mask all i) zs →
+      ((x : ℕ) → isIn x all ≡ true → can p mask zs x ≡ true → isIn x zs ≡ true) → Sub (forced p mask all i) zs
   unfolding forced
   forced-least i zs b c = steps-least (target p mask all i) zs b c (length all)
 
@@ -106,8 +121,10 @@ module _ (p : Plant) (mask : ℕ) (all : List ℕ) where
   forced-all i x h = sifted-member all (forced p mask all i) (forced-sifted i) x h
 
 -- more moves in service and a larger set force from more states
-pub forced-more : (p : Plant) (m n : ℕ) (xs ys : List ℕ) (i : ℕ) → MaskWithin m n → Sub xs ys → Sub (forced p m xs i) (forced p n ys i)
+pub forced-more : (p : Plant) (m n : ℕ) (xs ys : List ℕ) (i : ℕ) → MaskWithin m n → Sub xs ys →
+    Sub (forced p m xs i) (forced p n ys i)
 forced-more p m n xs ys i w s =
     forced-least p m xs i (forced p n ys i)
-    (λ x h. let r = target-holds p m xs i x h in forced-target p n ys i x (target-in p n ys i x (s x (r .0)) (r .1) (can-more p m n xs ys x w s (r .2))))
+    (λ x h. let r = target-holds p m xs i x h in
+    forced-target p n ys i x (target-in p n ys i x (s x (r .0)) (r .1) (can-more p m n xs ys x w s (r .2))))
     (λ x a h. forced-closed p n ys i x (s x a) (can-more p m n (forced p n ys i) (forced p n ys i) x w (λ y e. e) h))

@@ -16,8 +16,10 @@ use Rattle.sets.proofs.Tests.{decided, same-number, not-both, or-left, or-right
 use Rattle.sets.proofs.Members.{Sifted, sifted-filter, sifted-member, filter-same, filter-holds, filter-in, isIn-none}
 use Rattle.sets.proofs.First.{first-range, first-holds, first-least}
 use Rattle.sets.proofs.Iterate.{iterate-still}
-use Rattle.kept.proofs.Moves.{Sub, MovesBelow, can-more, can-move, can-not, available-end, into-available, into-ends, move-lowest}
-use Rattle.kept.proofs.Reach.{grown-holds, grown-can, steps-full, steps-later, steps-sifted, forced-least, target-holds}
+use Rattle.kept.proofs.Moves.{Sub, MovesBelow, can-more, can-move, can-not, available-end, into-available}
+use Rattle.kept.proofs.Moves.{into-ends, move-lowest}
+use Rattle.kept.proofs.Reach.{grown-holds, grown-can, steps-full, steps-later, steps-sifted, forced-least}
+use Rattle.kept.proofs.Reach.{target-holds}
 
 and-with : (a b : Bool) → b ≡ true → (a && b) ≡ a
 and-with true b e = e
@@ -38,7 +40,9 @@ module _ (p : Plant) (mask : ℕ) (kept : List ℕ) (some-goal : 0 < p .goals) (
       filter-holds (can p mask kept) kept x
       (forced-least p mask kept 0 (filter (can p mask kept) kept)
       (λ y t. let r = target-holds p mask kept 0 y t in filter-in (can p mask kept) kept y (r .0) (r .2))
-      (λ y a c. filter-in (can p mask kept) kept y a (can-more p mask mask (filter (can p mask kept) kept) kept y (λ u e. e) (λ z m. filter-holds (can p mask kept) kept z m .0) c))
+      (λ y a c. filter-in (can p mask kept) kept y a
+      (can-more p mask mask (filter (can p mask kept) kept) kept y (λ u e. e)
+      (λ z m. filter-holds (can p mask kept) kept z m .0) c))
       x (fixed x 0 h some-goal)) .1
 
   module _ (i : ℕ) (i-goal : i < p .goals) where
@@ -65,11 +69,13 @@ module _ (p : Plant) (mask : ℕ) (kept : List ℕ) (some-goal : 0 < p .goals) (
         (steps-sifted p mask kept (filter (inGoal p i) kept) start-sifted n) x h
 
     -- a state of the next level is in this one or has a move into it
-    pub level-step : (n x : ℕ) → isIn x (level p mask kept i (suc n)) ≡ true → (isIn x (level p mask kept i n) ≡ true) ⊎ (can p mask (level p mask kept i n) x ≡ true)
+    pub level-step : (n x : ℕ) → isIn x (level p mask kept i (suc n)) ≡ true →
+        (isIn x (level p mask kept i n) ≡ true) ⊎ (can p mask (level p mask kept i n) x ≡ true)
     unfolding level iterate
     level-step n x h = grown-holds p mask kept (iterate n (grown p mask kept) (filter (inGoal p i) kept)) x h .1
 
-    pub level-can : (n x : ℕ) → isIn x kept ≡ true → can p mask (level p mask kept i n) x ≡ true → isIn x (level p mask kept i (suc n)) ≡ true
+    pub level-can : (n x : ℕ) → isIn x kept ≡ true → can p mask (level p mask kept i n) x ≡ true →
+        isIn x (level p mask kept i (suc n)) ≡ true
     unfolding level iterate
     level-can n x k h = grown-can p mask kept (iterate n (grown p mask kept) (filter (inGoal p i) kept)) x k h
 
@@ -78,15 +84,20 @@ module _ (p : Plant) (mask : ℕ) (kept : List ℕ) (some-goal : 0 < p .goals) (
     unfolding forced level target
     forced-is-level =
         ap (iterate (length kept) (grown p mask kept))
-        (filter-same (λ z. inGoal p i z && can p mask kept z) (inGoal p i) kept (λ x m. and-with (inGoal p i x) (can p mask kept x) (kept-can x m)))
+        (filter-same (λ z. inGoal p i z && can p mask kept z) (inGoal p i) kept
+        (λ x m. and-with (inGoal p i x) (can p mask kept x) (kept-can x m)))
 
     -- a level that is not empty leads down to the goal
-    level-bottom : (n x : ℕ) → isIn x (level p mask kept i n) ≡ true → (y : ℕ) × (isIn y (level p mask kept i 0) ≡ true)
+    level-bottom : (n x : ℕ) → isIn x (level p mask kept i n) ≡ true →
+        (y : ℕ) × (isIn y (level p mask kept i 0) ≡ true)
     level-bottom zero x h = (x, h)
     level-bottom (suc n) x h =
         ⊎-elim
         (λ m. level-bottom n x m)
-        (λ c. let r = can-move p mask (level p mask kept i n) x c in let u = moveInto p mask (level p mask kept i n) x in let e = available-end p mask x u (into-available p mask (level p mask kept i n) x u (r .1)) in level-bottom n (e .0) (into-ends p mask (level p mask kept i n) x u (r .1) (e .0) (e .1)))
+        (λ c. let r = can-move p mask (level p mask kept i n) x c in
+        let u = moveInto p mask (level p mask kept i n) x in let e =
+        available-end p mask x u (into-available p mask (level p mask kept i n) x u (r .1)) in
+        level-bottom n (e .0) (into-ends p mask (level p mask kept i n) x u (r .1) (e .0) (e .1)))
         (level-step n x h)
 
     -- the levels stand still one step before there are as many as kept states
@@ -97,7 +108,8 @@ module _ (p : Plant) (mask : ℕ) (kept : List ℕ) (some-goal : 0 < p .goals) (
         let b = level-bottom (length kept) x m in
         let l = has-length (b .0) (filter (inGoal p i) kept) (b .1) in
         let full = steps-full p mask kept (filter (inGoal p i) kept) start-sifted (length kept - 1) (omega arith) in
-        rw (iterate-still (length kept - 1) (length kept) (grown p mask kept) (filter (inGoal p i) kept) full (omega arith)) at m
+        rw (iterate-still (length kept - 1) (length kept) (grown p mask kept) (filter (inGoal p i) kept) full
+        (omega arith)) at m
 
     module _ (x : ℕ) (is-kept : isIn x kept ≡ true) where
       -- a wait is below the number of kept states
@@ -105,7 +117,8 @@ module _ (p : Plant) (mask : ℕ) (kept : List ℕ) (some-goal : 0 < p .goals) (
       unfolding waitOf
       wait-short =
           let l = has-length x kept is-kept in
-          let k = first-least (length kept) 0 (λ n. isIn x (level p mask kept i n)) (length kept - 1) (omega arith) (omega arith) (level-last x is-kept) in
+          let k = first-least (length kept) 0 (λ n. isIn x (level p mask kept i n)) (length kept - 1) (omega arith)
+          (omega arith) (level-last x is-kept) in
           omega arith
 
       -- it is at most n exactly in level n
@@ -119,7 +132,8 @@ module _ (p : Plant) (mask : ℕ) (kept : List ℕ) (some-goal : 0 < p .goals) (
       unfolding waitOf
       level-wait n h =
           ⊎-elim
-          (λ e. let l = ltb-true n (length kept) e in first-least (length kept) 0 (λ k. isIn x (level p mask kept i k)) n (omega arith) (omega arith) h)
+          (λ e. let l = ltb-true n (length kept) e in
+          first-least (length kept) 0 (λ k. isIn x (level p mask kept i k)) n (omega arith) (omega arith) h)
           (λ e. let s = wait-short in omega (arith, leb-false (suc n) (length kept) e))
           (decided (ltb n (length kept)))
 
@@ -131,38 +145,52 @@ module _ (p : Plant) (mask : ℕ) (kept : List ℕ) (some-goal : 0 < p .goals) (
       goal-wait g = let l = level-wait 0 (goal-level x is-kept g) in omega arith
 
     -- where the listed move may end
-    pub nearer-holds : (w y : ℕ) → isIn y (nearer p mask kept i w) ≡ true → (isIn y kept ≡ true) × (0 < w → waitOf p mask kept i y < w)
+    pub nearer-holds : (w y : ℕ) → isIn y (nearer p mask kept i w) ≡ true →
+        (isIn y kept ≡ true) × (0 < w → waitOf p mask kept i y < w)
     unfolding nearer
     nearer-holds w y h =
-        let r = filter-holds (λ z. eqb w 0 || ltb (waitOf p mask kept i z) w) kept y h in
-        (r .0, λ l. ⊎-elim (λ e. absurd (omega (arith, eqb-true w 0 e))) (λ e. ltb-true (waitOf p mask kept i y) w e) (or-cases (eqb w 0) (ltb (waitOf p mask kept i y) w) (r .1)))
+        let r = filter-holds (λ z. eqb w 0 || ltb (waitOf p mask kept i z) w) kept y h in (
+          r .0,
+          λ l. ⊎-elim (λ e. absurd (omega (arith, eqb-true w 0 e))) (λ e. ltb-true (waitOf p mask kept i y) w e)
+              (or-cases (eqb w 0) (ltb (waitOf p mask kept i y) w) (r .1)),
+        )
 
-    pub nearer-in : (w y : ℕ) → isIn y kept ≡ true → (0 < w → waitOf p mask kept i y < w) → isIn y (nearer p mask kept i w) ≡ true
+    pub nearer-in : (w y : ℕ) → isIn y kept ≡ true → (0 < w → waitOf p mask kept i y < w) →
+        isIn y (nearer p mask kept i w) ≡ true
     unfolding nearer
     nearer-in w y k f =
         filter-in (λ z. eqb w 0 || ltb (waitOf p mask kept i z) w) kept y k
         (⊎-elim
         (λ e. or-left (eqb w 0) (ltb (waitOf p mask kept i y) w) (eq-eqb w 0 e))
-        (λ d. or-right (eqb w 0) (ltb (waitOf p mask kept i y) w) (lt-ltb (waitOf p mask kept i y) w (f (omega arith))))
+        (λ d. or-right (eqb w 0) (ltb (waitOf p mask kept i y) w)
+        (lt-ltb (waitOf p mask kept i y) w (f (omega arith))))
         (same-number w 0))
 
     -- there is a move into it
-    pub nearer-can : (x : ℕ) → isIn x kept ≡ true → can p mask (nearer p mask kept i (waitOf p mask kept i x)) x ≡ true
+    pub nearer-can : (x : ℕ) → isIn x kept ≡ true →
+        can p mask (nearer p mask kept i (waitOf p mask kept i x)) x ≡ true
     nearer-can x is-kept = go (waitOf p mask kept i x) refl
       where
         go : (w : ℕ) → waitOf p mask kept i x ≡ w → can p mask (nearer p mask kept i w) x ≡ true
-        go zero e = can-more p mask mask kept (nearer p mask kept i 0) x (λ u b. b) (λ y k. nearer-in 0 y k (λ l. absurd (omega arith))) (kept-can x is-kept)
+        go zero e =
+            can-more p mask mask kept (nearer p mask kept i 0) x (λ u b. b)
+            (λ y k. nearer-in 0 y k (λ l. absurd (omega arith))) (kept-can x is-kept)
         go (suc n) e =
             can-more p mask mask (level p mask kept i n) (nearer p mask kept i (suc n)) x (λ u b. b)
-            (λ y m. let k = level-kept n y m in nearer-in (suc n) y k (λ l. let w = level-wait y k n m in omega arith))
-            (⊎-elim (λ m. absurd (omega (arith, level-wait x is-kept n m))) (λ c. c) (level-step n x (wait-level x is-kept (suc n) (omega arith))))
+            (λ y m. let k = level-kept n y m in
+            nearer-in (suc n) y k (λ l. let w = level-wait y k n m in omega arith))
+            (⊎-elim (λ m. absurd (omega (arith, level-wait x is-kept n m))) (λ c. c)
+            (level-step n x (wait-level x is-kept (suc n) (omega arith))))
 
     -- the listed move of a kept state goes there, and no lower one does
-    pub listed-into : (x : ℕ) → isIn x kept ≡ true → (listedMove p mask kept i x < p .moves) × (goesInto p mask (nearer p mask kept i (waitOf p mask kept i x)) x (listedMove p mask kept i x) ≡ true)
+    pub listed-into : (x : ℕ) → isIn x kept ≡ true →
+        (listedMove p mask kept i x < p .moves) ×
+        (goesInto p mask (nearer p mask kept i (waitOf p mask kept i x)) x (listedMove p mask kept i x) ≡ true)
     unfolding listedMove
     listed-into x k = can-move p mask (nearer p mask kept i (waitOf p mask kept i x)) x (nearer-can x k)
 
-    pub listed-lowest : (x v : ℕ) → v < listedMove p mask kept i x → goesInto p mask (nearer p mask kept i (waitOf p mask kept i x)) x v ≡ false
+    pub listed-lowest : (x v : ℕ) → v < listedMove p mask kept i x →
+        goesInto p mask (nearer p mask kept i (waitOf p mask kept i x)) x v ≡ false
     unfolding listedMove
     listed-lowest x v l = move-lowest p mask (nearer p mask kept i (waitOf p mask kept i x)) x v l
 
@@ -171,7 +199,9 @@ module _ (p : Plant) (mask : ℕ) (kept : List ℕ) (some-goal : 0 < p .goals) (
     pub far-goal : (n x : ℕ) → isIn x kept ≡ true → isIn x (level p mask kept i n) ≡ false → inGoal p i x ≡ true → ⊥
     far-goal n x k f g = not-both (level-later 0 n (omega arith) x (goal-level x k g)) f
 
-    pub far-step : MovesBelow p → (n x u : ℕ) → isIn x kept ≡ true → isIn x (level p mask kept i (suc n)) ≡ false → available p mask x u ≡ true → (y : ℕ) × (isIn y (ends p x u) ≡ true) × (isIn y (level p mask kept i n) ≡ false)
+    pub far-step : MovesBelow p → (n x u : ℕ) → isIn x kept ≡ true → isIn x (level p mask kept i (suc n)) ≡ false →
+        available p mask x u ≡ true →
+        (y : ℕ) × (isIn y (ends p x u) ≡ true) × (isIn y (level p mask kept i n) ≡ false)
     far-step b n x u k f a =
         ⊎-elim
         (λ c. absurd (not-both (level-can n x k c) f))

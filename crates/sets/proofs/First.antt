@@ -45,7 +45,9 @@ first-least zero x test k l h t = absurd (omega arith)
 first-least (suc n) x test k l h t =
     ⊎-elim
     (λ e. rw (first-yes n x test e) l)
-    (λ e. rw (first-no n x test e) (⊎-elim (λ q. absurd (not-both t (rw q e))) (λ d. first-least n (suc x) test k (omega arith) (omega arith) t) (same-number k x)))
+    (λ e. rw (first-no n x test e)
+    (⊎-elim (λ q. absurd (not-both t (rw q e))) (λ d. first-least n (suc x) test k (omega arith) (omega arith) t)
+    (same-number k x)))
     (decided (test x))
 
 -- the test fails at each number before it

@@ -10,7 +10,8 @@ use lib.Dec.{eqb}
 use lib.ListN.{length}
 use borrow.Author.Tests.{eqb-true, eq-eqb}
 use Rattle.statements.specs.Sets.{numbers, isIn, allIn, consIf, filter}
-use Rattle.sets.proofs.Tests.{decided, same-number, not-both, and-true, and-left, and-right, and-false, or-left, or-right, or-cases, same-test}
+use Rattle.sets.proofs.Tests.{decided, same-number, not-both, and-true, and-left, and-right, and-false}
+use Rattle.sets.proofs.Tests.{or-left, or-right, or-cases, same-test}
 
 -- a member of a list, and of its rest
 pub isIn-here : (x : ℕ) (xs : List ℕ) → isIn x (x ∷ xs) ≡ true
@@ -50,12 +51,14 @@ unfolding allIn
 allIn-fails [] ys h = absurd (not-both refl h)
 allIn-fails (z ∷ xs) ys h =
     ⊎-elim
-    (λ e. let r = allIn-fails xs ys (and-false (isIn z ys) (allIn xs ys) h e) in (r .0, isIn-there (r .0) z xs (r .1), r .2))
+    (λ e. let r = allIn-fails xs ys (and-false (isIn z ys) (allIn xs ys) h e) in
+    (r .0, isIn-there (r .0) z xs (r .1), r .2))
     (λ e. (z, isIn-here z xs, e))
     (decided (isIn z ys))
 
 -- a member of a filter is a member at which the test holds
-pub isIn-consIf : (b : Bool) (y x : ℕ) (xs : List ℕ) → isIn y (consIf b x xs) ≡ true → ((y ≡ x) × (b ≡ true)) ⊎ (isIn y xs ≡ true)
+pub isIn-consIf : (b : Bool) (y x : ℕ) (xs : List ℕ) → isIn y (consIf b x xs) ≡ true →
+    ((y ≡ x) × (b ≡ true)) ⊎ (isIn y xs ≡ true)
 isIn-consIf true y x xs h = ⊎-elim (λ e. inl (e, refl)) (λ m. inr m) (isIn-cases y x xs h)
 isIn-consIf false y x xs h = inr h
 
@@ -67,7 +70,8 @@ consIf-there : (b : Bool) (y x : ℕ) (xs : List ℕ) → isIn y xs ≡ true →
 consIf-there true y x xs h = isIn-there y x xs h
 consIf-there false y x xs h = h
 
-pub filter-holds : (f : ℕ → Bool) (xs : List ℕ) (y : ℕ) → isIn y (filter f xs) ≡ true → (isIn y xs ≡ true) × (f y ≡ true)
+pub filter-holds : (f : ℕ → Bool) (xs : List ℕ) (y : ℕ) → isIn y (filter f xs) ≡ true →
+    (isIn y xs ≡ true) × (f y ≡ true)
 unfolding filter
 filter-holds f [] y h = absurd (isIn-none y h)
 filter-holds f (x ∷ xs) y h =
@@ -91,14 +95,16 @@ filter-test f xs y h =
     same-test (isIn y (filter f xs)) (f y) (λ m. filter-holds f xs y m .1) (λ t. filter-in f xs y h t)
 
 -- tests that agree on the members give one filter
-pub filter-same : (f g : ℕ → Bool) (xs : List ℕ) → ((x : ℕ) → isIn x xs ≡ true → f x ≡ g x) → filter f xs ≡ filter g xs
+pub filter-same : (f g : ℕ → Bool) (xs : List ℕ) → ((x : ℕ) → isIn x xs ≡ true → f x ≡ g x) →
+    filter f xs ≡ filter g xs
 unfolding filter
 filter-same f g [] h = refl
 filter-same f g (x ∷ xs) h =
     rw (h x (isIn-here x xs), filter-same f g xs (λ y m. h y (isIn-there y x xs m))) refl
 
 -- a filter of a filter
-consIf-filter : (b : Bool) (f : ℕ → Bool) (x : ℕ) (ys zs : List ℕ) → filter f ys ≡ zs → filter f (consIf b x ys) ≡ consIf (b && f x) x zs
+consIf-filter : (b : Bool) (f : ℕ → Bool) (x : ℕ) (ys zs : List ℕ) → filter f ys ≡ zs →
+    filter f (consIf b x ys) ≡ consIf (b && f x) x zs
 unfolding filter
 consIf-filter true f x ys zs h = rw h refl
 consIf-filter false f x ys zs h = h
@@ -106,7 +112,8 @@ consIf-filter false f x ys zs h = h
 pub filter-filter : (f g : ℕ → Bool) (xs : List ℕ) → filter f (filter g xs) ≡ filter (λ x. g x && f x) xs
 unfolding filter
 filter-filter f g [] = refl
-filter-filter f g (x ∷ xs) = consIf-filter (g x) f x (filter g xs) (filter (λ y. g y && f y) xs) (filter-filter f g xs)
+filter-filter f g (x ∷ xs) =
+    consIf-filter (g x) f x (filter g xs) (filter (λ y. g y && f y) xs) (filter-filter f g xs)
 
 -- a list that is a filter of another, so that its members determine it
 abbrev pub Sifted : List ℕ → List ℕ → Type 0
@@ -118,25 +125,31 @@ sifted-filter f all = filter-same f (λ x. isIn x (filter f all)) all (λ x m. s
 pub sifted-member : (all ys : List ℕ) → Sifted all ys → (x : ℕ) → isIn x ys ≡ true → isIn x all ≡ true
 sifted-member all ys s x m = filter-holds (λ y. isIn y ys) all x (rw s at m) .0
 
-pub sifted-same : (all ys zs : List ℕ) → Sifted all ys → Sifted all zs → ((x : ℕ) → isIn x ys ≡ true → isIn x zs ≡ true) → ((x : ℕ) → isIn x zs ≡ true → isIn x ys ≡ true) → ys ≡ zs
+pub sifted-same : (all ys zs : List ℕ) → Sifted all ys → Sifted all zs →
+    ((x : ℕ) → isIn x ys ≡ true → isIn x zs ≡ true) → ((x : ℕ) → isIn x zs ≡ true → isIn x ys ≡ true) → ys ≡ zs
 sifted-same all ys zs s t f g =
-    s ∙ filter-same (λ x. isIn x ys) (λ x. isIn x zs) all (λ x m. same-test (isIn x ys) (isIn x zs) (f x) (g x)) ∙ sym t
+    s ∙ filter-same (λ x. isIn x ys) (λ x. isIn x zs) all (λ x m. same-test (isIn x ys) (isIn x zs) (f x) (g x)) ∙
+    sym t
 
 -- a filter of a sifted list is sifted
 pub sifted-sub : (f : ℕ → Bool) (all ys : List ℕ) → Sifted all ys → Sifted all (filter f ys)
 sifted-sub f all ys s =
-    let e : filter f ys ≡ filter (λ x. isIn x ys && f x) all = ap (filter f) s ∙ filter-filter f (λ x. isIn x ys) all in
+    let e : filter f ys ≡ filter (λ x. isIn x ys && f x) all =
+    ap (filter f) s ∙ filter-filter f (λ x. isIn x ys) all in
     let k = sifted-filter (λ x. isIn x ys && f x) all in
-    e ∙ k ∙ filter-same (λ x. isIn x (filter (λ y. isIn y ys && f y) all)) (λ x. isIn x (filter f ys)) all (λ x m. ap (isIn x) (sym e))
+    e ∙ k ∙ filter-same (λ x. isIn x (filter (λ y. isIn y ys && f y) all)) (λ x. isIn x (filter f ys)) all
+    (λ x m. ap (isIn x) (sym e))
 
 -- a filter with more members is as long or longer, and equal if it is as long
-consIf-longer : (a b : Bool) (x : ℕ) (ys zs : List ℕ) → (a ≡ true → b ≡ true) → length ys ≤ length zs → length (consIf a x ys) ≤ length (consIf b x zs)
+consIf-longer : (a b : Bool) (x : ℕ) (ys zs : List ℕ) → (a ≡ true → b ≡ true) → length ys ≤ length zs →
+    length (consIf a x ys) ≤ length (consIf b x zs)
 consIf-longer true true x ys zs h l = omega arith
 consIf-longer true false x ys zs h l = absurd (not-both (h refl) refl)
 consIf-longer false true x ys zs h l = omega arith
 consIf-longer false false x ys zs h l = l
 
-pub filter-longer : (f g : ℕ → Bool) (xs : List ℕ) → ((x : ℕ) → isIn x xs ≡ true → f x ≡ true → g x ≡ true) → length (filter f xs) ≤ length (filter g xs)
+pub filter-longer : (f g : ℕ → Bool) (xs : List ℕ) → ((x : ℕ) → isIn x xs ≡ true → f x ≡ true → g x ≡ true) →
+    length (filter f xs) ≤ length (filter g xs)
 unfolding filter
 filter-longer f g [] h = omega arith
 filter-longer f g (x ∷ xs) h =
@@ -152,7 +165,9 @@ filter-length f (x ∷ xs) = shorter (f x) (filter-length f xs)
     shorter true l = omega arith
     shorter false l = omega arith
 
-consIf-as-long : (a b : Bool) (x : ℕ) (ys zs : List ℕ) → (a ≡ true → b ≡ true) → length ys ≤ length zs → (length ys ≡ length zs → ys ≡ zs) → length (consIf a x ys) ≡ length (consIf b x zs) → consIf a x ys ≡ consIf b x zs
+consIf-as-long : (a b : Bool) (x : ℕ) (ys zs : List ℕ) → (a ≡ true → b ≡ true) → length ys ≤ length zs →
+    (length ys ≡ length zs → ys ≡ zs) → length (consIf a x ys) ≡ length (consIf b x zs) →
+    consIf a x ys ≡ consIf b x zs
 consIf-as-long true true x ys zs k l rec e =
     let d : length ys ≡ length zs = omega arith in
     ap (λ ws. x ∷ ws) (rec d)
@@ -160,7 +175,8 @@ consIf-as-long true false x ys zs k l rec e = absurd (not-both (k refl) refl)
 consIf-as-long false true x ys zs k l rec e = absurd (omega arith)
 consIf-as-long false false x ys zs k l rec e = rec e
 
-pub filter-as-long : (f g : ℕ → Bool) (xs : List ℕ) → ((x : ℕ) → isIn x xs ≡ true → f x ≡ true → g x ≡ true) → length (filter f xs) ≡ length (filter g xs) → filter f xs ≡ filter g xs
+pub filter-as-long : (f g : ℕ → Bool) (xs : List ℕ) → ((x : ℕ) → isIn x xs ≡ true → f x ≡ true → g x ≡ true) →
+    length (filter f xs) ≡ length (filter g xs) → filter f xs ≡ filter g xs
 unfolding filter
 filter-as-long f g [] h l = refl
 filter-as-long f g (x ∷ xs) h l =
@@ -178,7 +194,8 @@ pub numbers-holds : (n x k : ℕ) → isIn k (numbers n x) ≡ true → (x ≤ k
 unfolding numbers
 numbers-holds zero x k h = absurd (isIn-none k h)
 numbers-holds (suc n) x k h =
-    ⊎-elim (λ e. omega arith) (λ m. let r = numbers-holds n (suc x) k m in omega arith) (isIn-cases k x (numbers n (suc x)) h)
+    ⊎-elim (λ e. omega arith) (λ m. let r = numbers-holds n (suc x) k m in omega arith)
+    (isIn-cases k x (numbers n (suc x)) h)
 
 pub numbers-in : (n x k : ℕ) → x ≤ k → k < x + n → isIn k (numbers n x) ≡ true
 unfolding numbers

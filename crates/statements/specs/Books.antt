@@ -24,7 +24,8 @@ bookLong s n = 16 + 4 * (s * n)
 -- an entry: wait, then move
 unfoldable pub entryOf : Plant → ℕ → List ℕ → ℕ → ℕ → List ℕ
 entryOf p mask kept x i =
-    pick (isIn x kept) (two (waitOf p mask kept i x) ++ two (listedMove p mask kept i x)) (two lostMark ++ two lostMark)
+    pick (isIn x kept) (two (waitOf p mask kept i x) ++ two (listedMove p mask kept i x))
+    (two lostMark ++ two lostMark)
 
 -- a state's row: one entry per goal
 unfoldable pub rowOf : Plant → ℕ → List ℕ → ℕ → List ℕ
@@ -32,7 +33,10 @@ rowOf p mask kept x = joined (p .goals) 0 (entryOf p mask kept x)
 
 unfoldable pub headOf : Plant → ℕ → List ℕ → List ℕ
 headOf p mask kept =
-    two (p .states) ++ (two (p .moves) ++ (two (p .goals) ++ (two (length kept) ++ (two (mask % 65536) ++ (two (mask / 65536) ++ (two 16 ++ two (bookLong (p .states) (p .goals))))))))
+    two (p .states) ++
+    (two (p .moves) ++ (two (p .goals) ++
+    (two (length kept) ++ (two (mask % 65536) ++
+    (two (mask / 65536) ++ (two 16 ++ two (bookLong (p .states) (p .goals))))))))
 
 -- the book's bytes for a plant, the moves in service and the kept states
 unfoldable pub bookBytes : Plant → ℕ → List ℕ → List ℕ
@@ -83,7 +87,12 @@ bookHeadOk b =
     let s = bookStates b in
     let u = bookMoves b in
     let n = bookGoals b in
-    leb 16 (length b) && (leb 1 s && (leb s 1024 && (leb 1 u && (leb u 32 && (leb 1 n && (leb n 8 && (eqb (word 6 b) 16 && (eqb (word 7 b) (bookLong s n) && (maskOk u (bookMask b) && eqb (length b) (word 7 b))))))))))
+    leb 16 (length b) &&
+    (leb 1 s && (leb s 1024 &&
+    (leb 1 u && (leb u 32 &&
+    (leb 1 n && (leb n 8 &&
+    (eqb (word 6 b) 16 && (eqb (word 7 b) (bookLong s n) &&
+    (maskOk u (bookMask b) && eqb (length b) (word 7 b))))))))))
 
 unfoldable pub rowsOk : List ℕ → Bool
 rowsOk b =

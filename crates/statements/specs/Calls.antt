@@ -6,7 +6,8 @@ use lib.Dec.{eqb, ltb, leb}
 use lib.ListN.{take, drop}
 use Rattle.statements.specs.Sets.{pick}
 use Rattle.statements.specs.Plants.{firstOf, when, Plant, plantOf, plantFault}
-use Rattle.statements.specs.Books.{bookLong, bookStates, bookMoves, bookGoals, maskOk, bookHeadOk, bookFault, lessMask, madeBook, withdrawnBook}
+use Rattle.statements.specs.Books.{bookLong, bookStates, bookMoves, bookGoals, maskOk, bookHeadOk, bookFault}
+use Rattle.statements.specs.Books.{lessMask, madeBook, withdrawnBook}
 
 -- answer 6: the mask given has a bit at U or above; answer 7: a book buffer under the book's length, or a drop buffer
 -- under 2S bytes

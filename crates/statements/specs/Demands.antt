@@ -7,7 +7,9 @@ use Prim.Native.Nat.{ℕ, zero, suc, _+_, _*_, _≤_, _<_}
 use lib.ListN.{length, getD}
 use Rattle.statements.specs.Sets.{isIn}
 use Rattle.statements.specs.Plants.{word, Plant, plantOf, plantFault, allowed, ends, available}
-use Rattle.statements.specs.Books.{bookLong, bookStates, bookMoves, bookGoals, bookCount, bookMask, waitAt, moveAt, isLost, bookKept, maskOk, lessMask, keptBefore, madeBook, withdrawnBook, droppedStates}
+use Rattle.statements.specs.Books.{bookLong, bookStates, bookMoves, bookGoals, bookCount, bookMask, waitAt}
+use Rattle.statements.specs.Books.{moveAt, isLost, bookKept, maskOk, lessMask, keptBefore, madeBook}
+use Rattle.statements.specs.Books.{withdrawnBook, droppedStates}
 use Rattle.statements.specs.Calls.{makeFault, withdrawFault, Call, standing, answers, told, inService}
 use Rattle.statements.specs.Strategies.{Wins-by, Wins, Forces, following}
 
@@ -34,9 +36,11 @@ pub record IsBook (p : Plant) (mask : ℕ) (within : ℕ → Type 0) (b : List �
   -- a lost state has the mark in both places of every entry, and only a lost state has
   pub kept : (x : ℕ) → x < p .states → (isLost b x ≡ false) ↔ Wins p mask within x
   -- a kept state's wait is the least number of moves in which the goal can be forced within kept states
-  pub wait : (x i n : ℕ) → x < p .states → i < p .goals → Wins p mask within x → (waitAt b x i ≤ n) ↔ Forces p mask (Wins p mask within) x i n
+  pub wait : (x i n : ℕ) → x < p .states → i < p .goals → Wins p mask within x →
+      (waitAt b x i ≤ n) ↔ Forces p mask (Wins p mask within) x i n
   -- its move is the lowest available one into kept states, above wait 0 into those with a smaller wait
-  pub move : (x i : ℕ) → x < p .states → i < p .goals → Wins p mask within x → Lowest p mask x (λ y. Wins p mask within y × (0 < waitAt b x i → waitAt b y i < waitAt b x i)) (moveAt b x i)
+  pub move : (x i : ℕ) → x < p .states → i < p .goals → Wins p mask within x →
+      Lowest p mask x (λ y. Wins p mask within y × (0 < waitAt b x i → waitAt b y i < waitAt b x i)) (moveAt b x i)
 
 -- the sets that strategies may not leave: in a making the allowed states, in a withdrawal those of them that the book
 -- handed in keeps
@@ -58,23 +62,34 @@ pub record Right (p : Plant) (mask : ℕ) (within : ℕ → Type 0) (b : List �
   -- a wait is at most 1,023
   pub short : (x i : ℕ) → x < p .states → i < p .goals → Wins p mask within x → waitAt b x i ≤ 1023
   -- following the book from a kept state and any first goal wins without leaving kept states
-  pub follows : (x goal : ℕ) → x < p .states → goal < p .goals → isLost b x ≡ false → Wins-by p mask (Wins p mask within) x (following b goal)
+  pub follows : (x goal : ℕ) → x < p .states → goal < p .goals → isLost b x ≡ false →
+      Wins-by p mask (Wins p mask within) x (following b goal)
 
 -- demand 2: kept states, waits and moves are those of strategies over whole histories
 pub record Demand-2 : Type 0 where
   -- for the book of a making
-  pub made : (s : List ℕ) (mask room : ℕ) → makeFault s mask room ≡ 0 → Right (plantOf s) mask (Allowed (plantOf s)) (madeBook (plantOf s) mask)
+  pub made : (s : List ℕ) (mask room : ℕ) → makeFault s mask room ≡ 0 →
+      Right (plantOf s) mask (Allowed (plantOf s)) (madeBook (plantOf s) mask)
   -- and for that of a withdrawal from any book, also one that nobody made
-  pub withdrawn : (s b : List ℕ) (gone room drops : ℕ) → withdrawFault s b gone room drops ≡ 0 → Right (plantOf s) (lessMask (bookMask b) gone) (KeptBefore (plantOf s) b) (withdrawnBook (plantOf s) b gone)
+  pub withdrawn : (s b : List ℕ) (gone room drops : ℕ) → withdrawFault s b gone room drops ≡ 0 →
+      Right (plantOf s) (lessMask (bookMask b) gone) (KeptBefore (plantOf s) b) (withdrawnBook (plantOf s) b gone)
   -- the drop list: the states kept before and lost now, each once
-  pub dropped : (s b : List ℕ) (gone room drops : ℕ) → withdrawFault s b gone room drops ≡ 0 → (x : ℕ) → let after = withdrawnBook (plantOf s) b gone in (isIn x (droppedStates b after) ≡ true) ↔ ((x < plantOf s .states) × (isLost b x ≡ false) × (isLost after x ≡ true))
+  pub dropped : (s b : List ℕ) (gone room drops : ℕ) → withdrawFault s b gone room drops ≡ 0 → (x : ℕ) →
+      let after = withdrawnBook (plantOf s) b gone in
+      (isIn x (droppedStates b after) ≡ true) ↔
+      ((x < plantOf s .states) × (isLost b x ≡ false) × (isLost after x ≡ true))
   pub once : (b after : List ℕ) → Rising (droppedStates b after)
 
 -- demand 3: after any list of calls that follows an accepted make
 pub record Demand-3 : Type 0 where
   -- the standing book is that of a making afresh with the moves in service
-  pub as-afresh : (s : List ℕ) (mask room : ℕ) (calls : List Call) → makeFault s mask room ≡ 0 → standing s (madeBook (plantOf s) mask) calls ≡ madeBook (plantOf s) (inService (plantOf s) mask calls)
+  pub as-afresh : (s : List ℕ) (mask room : ℕ) (calls : List Call) → makeFault s mask room ≡ 0 →
+      standing s (madeBook (plantOf s) mask) calls ≡ madeBook (plantOf s) (inService (plantOf s) mask calls)
   -- each call's answer is told from the calls alone
-  pub told-alone : (s : List ℕ) (mask room : ℕ) (calls : List Call) → makeFault s mask room ≡ 0 → answers s (madeBook (plantOf s) mask) calls ≡ told (plantOf s) calls
+  pub told-alone : (s : List ℕ) (mask room : ℕ) (calls : List Call) → makeFault s mask room ≡ 0 →
+      answers s (madeBook (plantOf s) mask) calls ≡ told (plantOf s) calls
   -- two such books are equal exactly when the same moves are in service
-  pub equal-books : (s : List ℕ) (mask room other-mask other-room : ℕ) (calls other-calls : List Call) → makeFault s mask room ≡ 0 → makeFault s other-mask other-room ≡ 0 → (standing s (madeBook (plantOf s) mask) calls ≡ standing s (madeBook (plantOf s) other-mask) other-calls) ↔ (inService (plantOf s) mask calls ≡ inService (plantOf s) other-mask other-calls)
+  pub equal-books : (s : List ℕ) (mask room other-mask other-room : ℕ) (calls other-calls : List Call) →
+      makeFault s mask room ≡ 0 → makeFault s other-mask other-room ≡ 0 →
+      (standing s (madeBook (plantOf s) mask) calls ≡ standing s (madeBook (plantOf s) other-mask) other-calls) ↔
+      (inService (plantOf s) mask calls ≡ inService (plantOf s) other-mask other-calls)

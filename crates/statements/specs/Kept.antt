@@ -46,7 +46,7 @@ level p mask kept i n = iterate n (grown p mask kept) (filter (inGoal p i) kept)
 unfoldable pub waitOf : Plant → ℕ → List ℕ → ℕ → ℕ → ℕ
 waitOf p mask kept i x = first (length kept) 0 (λ n. isIn x (level p mask kept i n))
 
--- where the listed move of an entry with this wait may end: in a kept state, and above wait 0 in one with a smaller wait
+-- where the listed move of an entry with this wait may end: in a kept state, above wait 0 in one with a smaller wait
 unfoldable pub nearer : Plant → ℕ → List ℕ → ℕ → ℕ → List ℕ
 nearer p mask kept i w = filter (λ y. eqb w 0 || ltb (waitOf p mask kept i y) w) kept
 

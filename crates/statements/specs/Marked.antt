@@ -15,7 +15,8 @@ bytesOf (v ∷ vs) = two v ++ bytesOf vs
 unfoldable pub plantP : List ℕ
 plantP =
     bytesOf
-    (4 ∷ 3 ∷ 2 ∷ 8 ∷ 16 ∷ 24 ∷ 72 ∷ 0 ∷ 3 ∷ 1 ∷ 5 ∷ 0 ∷ 0 ∷ 0 ∷ 1 ∷ 0 ∷ 1 ∷ 1 ∷ 0 ∷ 1 ∷ 2 ∷ 1 ∷ 0 ∷ 2 ∷ 1 ∷ 1 ∷ 3 ∷ 1 ∷ 2 ∷ 0 ∷ 2 ∷ 0 ∷ 0 ∷ 2 ∷ 2 ∷ 1 ∷ [])
+    (4 ∷ 3 ∷ 2 ∷ 8 ∷ 16 ∷ 24 ∷ 72 ∷ 0 ∷ 3 ∷ 1 ∷ 5 ∷ 0 ∷ 0 ∷ 0 ∷ 1 ∷ 0 ∷ 1 ∷ 1 ∷ 0 ∷ 1 ∷ 2 ∷ 1 ∷ 0 ∷ 2 ∷ 1 ∷ 1 ∷
+    3 ∷ 1 ∷ 2 ∷ 0 ∷ 2 ∷ 0 ∷ 0 ∷ 2 ∷ 2 ∷ 1 ∷ [])
 
 -- one state with this label, U 1, N 1: without an arrow, and with the arrow (0,0,0)
 unfoldable pub plantStill : List ℕ

@@ -49,7 +49,13 @@ unfoldable pub headOk : List ℕ → Bool
 headOk s =
     let n = word 0 s in
     let e = word 3 s in
-    leb 16 (length s) && (leb 1 n && (leb n 1024 && (leb 1 (word 1 s) && (leb (word 1 s) 32 && (leb 1 (word 2 s) && (leb (word 2 s) 8 && (leb e 8192 && (eqb (word 4 s) 16 && (eqb (word 5 s) (16 + 2 * n) && (eqb (word 6 s) (16 + (2 * n + 6 * e)) && (eqb (word 7 s) 0 && eqb (length s) (word 6 s))))))))))))
+    leb 16 (length s) &&
+    (leb 1 n && (leb n 1024 &&
+    (leb 1 (word 1 s) && (leb (word 1 s) 32 &&
+    (leb 1 (word 2 s) && (leb (word 2 s) 8 &&
+    (leb e 8192 && (eqb (word 4 s) 16 &&
+    (eqb (word 5 s) (16 + 2 * n) &&
+    (eqb (word 6 s) (16 + (2 * n + 6 * e)) && (eqb (word 7 s) 0 && eqb (length s) (word 6 s))))))))))))
 
 -- no label has a bit above bit n
 unfoldable pub labelsOk : ℕ → List ℕ → Bool
@@ -64,7 +70,8 @@ rank a = 65536 * (65536 * a .from) + (65536 * a .move + a .to)
 unfoldable pub arrowsOk : ℕ → ℕ → ℕ → List Arrow → Bool
 arrowsOk s u least [] = true
 arrowsOk s u least (a ∷ rest) =
-    ltb (a .from) s && (ltb (a .move) u && (ltb (a .to) s && (leb least (rank a) && arrowsOk s u (suc (rank a)) rest)))
+    ltb (a .from) s &&
+    (ltb (a .move) u && (ltb (a .to) s && (leb least (rank a) && arrowsOk s u (suc (rank a)) rest)))
 
 -- answers: the first that is not 0; a number if a test holds, and otherwise 0
 abbrev pub firstOf : ℕ → ℕ → ℕ

@@ -27,7 +27,8 @@ PicksMove p mask f past x = (u : ℕ) × (f past x ≡ some u) × (available p m
 abbrev pub Play : Plant → ℕ → Strategy → ℕ → List Turn → ℕ → Type 0
 Play p mask f start [] x = x ≡ start
 Play p mask f start (t ∷ past) x =
-    Play p mask f start past (t .state) × (f past (t .state) ≡ some (t .move)) × (available p mask (t .state) (t .move) ≡ true) × (isIn x (ends p (t .state) (t .move)) ≡ true)
+    Play p mask f start past (t .state) × (f past (t .state) ≡ some (t .move)) ×
+    (available p mask (t .state) (t .move) ≡ true) × (isIn x (ends p (t .state) (t .move)) ≡ true)
 
 -- the first n turns of an endless sequence of states and moves, the last one first
 unfoldable pub turns : (ℕ → ℕ) → (ℕ → ℕ) → ℕ → List Turn
@@ -39,23 +40,28 @@ abbrev pub Run : Plant → ℕ → Strategy → ℕ → (ℕ → ℕ) → (ℕ �
 Run p mask f start states moves = (n : ℕ) → Play p mask f start (turns states moves n) (states n)
 
 -- a strategy, followed from a state, never gets stuck and never leaves a set of states
-pub record Holds-by (p : Plant) (mask : ℕ) (within : ℕ → Type 0) (start : ℕ) (f : List Turn → ℕ → Option ℕ) : Type 0 where
+pub record Holds-by (p : Plant) (mask : ℕ) (within : ℕ → Type 0) (start : ℕ)
+    (f : List Turn → ℕ → Option ℕ) : Type 0 where
   pub never-stuck : (past : List Turn) (x : ℕ) → Play p mask f start past x → PicksMove p mask f past x
   pub stays : (past : List Turn) (x : ℕ) → Play p mask f start past x → within x
 
 -- it wins: besides, every run is in each goal again and again
-pub record Wins-by (p : Plant) (mask : ℕ) (within : ℕ → Type 0) (start : ℕ) (f : List Turn → ℕ → Option ℕ) : Type 0 where
+pub record Wins-by (p : Plant) (mask : ℕ) (within : ℕ → Type 0) (start : ℕ)
+    (f : List Turn → ℕ → Option ℕ) : Type 0 where
   pub holds : Holds-by p mask within start f
-  pub again : (states moves : ℕ → ℕ) → Run p mask f start states moves → (i n : ℕ) → i < p .goals → (m : ℕ) × (n ≤ m) × (inGoal p i (states m) ≡ true)
+  pub again : (states moves : ℕ → ℕ) → Run p mask f start states moves → (i n : ℕ) → i < p .goals →
+      (m : ℕ) × (n ≤ m) × (inGoal p i (states m) ≡ true)
 
 -- some strategy wins from a state without leaving a set
 abbrev pub Wins : Plant → ℕ → (ℕ → Type 0) → ℕ → Type 0
 Wins p mask within start = (f : Strategy) × Wins-by p mask within start f
 
 -- it forces goal i within n moves: besides, every run is in the goal at or before moment n
-pub record Forces-by (p : Plant) (mask : ℕ) (within : ℕ → Type 0) (start i n : ℕ) (f : List Turn → ℕ → Option ℕ) : Type 0 where
+pub record Forces-by (p : Plant) (mask : ℕ) (within : ℕ → Type 0) (start i n : ℕ)
+    (f : List Turn → ℕ → Option ℕ) : Type 0 where
   pub holds : Holds-by p mask within start f
-  pub in-time : (states moves : ℕ → ℕ) → Run p mask f start states moves → (m : ℕ) × (m ≤ n) × (inGoal p i (states m) ≡ true)
+  pub in-time : (states moves : ℕ → ℕ) → Run p mask f start states moves →
+      (m : ℕ) × (m ≤ n) × (inGoal p i (states m) ≡ true)
 
 abbrev pub Forces : Plant → ℕ → (ℕ → Type 0) → ℕ → ℕ → ℕ → Type 0
 Forces p mask within start i n = (f : Strategy) × Forces-by p mask within start i n f

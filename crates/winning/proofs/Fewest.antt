@@ -8,7 +8,8 @@ use native.Mathlib.Decide.{decLt}
 use Rattle.statements.specs.Sets.{isIn}
 use Rattle.statements.specs.Plants.{Plant, inGoal, ends, available}
 use Rattle.statements.specs.Strategies.{turns, Strategy, Forces-by, Forces}
-use Rattle.winning.proofs.Runs.{some-end, Answer, Opposed, opposed}
+use Rattle.kept.proofs.Moves.{available-end}
+use Rattle.winning.proofs.Runs.{Answer, Opposed, opposed}
 
 -- at moment k a state is as far from the goal as there are moves left of n
 abbrev Left : (ℕ → ℕ → Type 0) → ℕ → ℕ → ℕ → Type 0
@@ -29,7 +30,7 @@ module _ (p : Plant) (mask : ℕ) (kept : ℕ → Type 0) (i : ℕ) (far : ℕ �
             let y = avoid (n - suc k) x u h (l (suc (n - suc k)) (omega arith)) a in
             (y .0, y .1, λ z. (λ j e. subst (λ m. far m y.0) (omega arith) (y .2 z), tt))
         | no c ↦
-            let y = some-end p mask x u a in
+            let y = available-end p mask x u a in
             (y .0, y .1, λ z. (λ j e. absurd (omega arith), tt))
       ]
 

@@ -3,29 +3,14 @@
 -- it. Assumes nothing.
 use mathlib.Core.Path.{_≡_, refl}
 use mathlib.Core.Logic.{_↔_, _⊎_, inl, inr}
-use mathlib.Core.Bool.{Bool, true, false, _&&_, false≢true}
+use mathlib.Core.Bool.{true}
 use mathlib.Core.List.{List, [], _∷_}
 use Prim.Native.Nat.{ℕ, zero, suc, _+_, _≤_, _<_}
 use native.Mathlib.Omega.{arith}
-use lib.Dec.{leb}
-use lib.ListN.{length}
-use borrow.Author.Tests.{eq-eqb}
-use Rattle.statements.specs.Sets.{bit, isIn}
+use Rattle.statements.specs.Sets.{isIn}
 use Rattle.statements.specs.Plants.{Plant, ends, available}
 use Rattle.statements.specs.Strategies.{Turn, Strategy, PicksMove, Play, turns, Run}
 use Rattle.statements.specs.Strategies.{Holds-by, Wins-by, Wins, Forces}
-
--- a list that is not empty has a member
-member : (b : Bool) (ys : List ℕ) → (b && leb 1 (length ys)) ≡ true → (y : ℕ) × (isIn y ys ≡ true)
-unfolding isIn
-member true [] h = absurd (false≢true h)
-member false [] h = absurd (false≢true h)
-member b (y ∷ ys) h = (y, rw (eq-eqb y y refl))
-
--- an available move has an end
-pub some-end : (p : Plant) (mask x u : ℕ) → available p mask x u ≡ true → (y : ℕ) × (isIn y (ends p x u) ≡ true)
-unfolding available
-some-end p mask x u = member (bit u mask) (ends p x u)
 
 -- a state reached at moment n, the turns that led there, and what is known of it
 record Reached (p : Plant) (mask start : ℕ) (f : Strategy) (Inv : ℕ → Type 0) : Type 0 where

@@ -1,0 +1,125 @@
+-- Demand 3: after any list of calls the standing book is that of a making afresh. The book of a making is accepted, so
+-- that each call answers as told from the calls alone, and what it writes is such a book again. Assumes nothing.
+use mathlib.Core.Path.{_≡_, refl, sym, _∙_, ap}
+use mathlib.Core.Logic.{inl, inr}
+use mathlib.Core.Bool.{true}
+use mathlib.Core.List.{List, [], _∷_}
+use Prim.Native.Nat.{ℕ}
+use lib.Dec.{eqb}
+use borrow.Author.Tests.{eqb-true}
+use Rattle.statements.specs.Sets.{pick}
+use Rattle.statements.specs.Plants.{Plant, plantOf, plantFault}
+use Rattle.statements.specs.Books.{bookFault, maskOk, madeBook}
+use Rattle.statements.specs.Calls.{makeFault, Call, makes, withdraws, answerOf, writtenBy, standingAfter}
+use Rattle.statements.specs.Calls.{standing, answers, toldOf, told, putBy, inService}
+use Rattle.statements.specs.Demands.{Demand-3}
+use Rattle.sets.proofs.Tests.{decided}
+use Rattle.decoding.proofs.Masks.{less-ok}
+use Rattle.decoding.proofs.Faults.{plant-ok, make-ok, make-told, withdraw-told}
+use Rattle.demands.proofs.Afresh.{made-same, made-alike, made-accepted, withdrawn-afresh}
+
+-- the moves in service after a call, told from the call alone
+abbrev pub putAfter : Plant → ℕ → Call → ℕ
+putAfter p mask c = pick (eqb (toldOf p c) 0) (putBy mask c) mask
+
+module _ (s : List ℕ) (accepted : plantFault s ≡ 0) where
+  module _ (mask : ℕ) (ok : maskOk (plantOf s .moves) mask ≡ true) where
+    -- a call on the book of a making answers as told from the call alone
+    pub answer-told : (c : Call) → answerOf s (madeBook (plantOf s) mask) c ≡ toldOf (plantOf s) c
+    unfolding answerOf
+    answer-told (makes new room) = make-told s new room accepted
+    answer-told (withdraws gone room drops) =
+        withdraw-told s (madeBook (plantOf s) mask) gone room drops accepted
+        (made-accepted (plantOf s) (plant-ok s accepted) mask ok) (made-alike (plantOf s) mask)
+
+    -- what it writes is the book of a making afresh
+    pub written-afresh :
+        (c : Call) → writtenBy s (madeBook (plantOf s) mask) c ≡ madeBook (plantOf s) (putBy mask c)
+    unfolding writtenBy putBy
+    written-afresh (makes new room) = refl
+    written-afresh (withdraws gone room drops) = withdrawn-afresh (plantOf s) (plant-ok s accepted) mask ok gone
+
+    -- an accepted call puts a mask of the plant's moves in service
+    put-ok : (c : Call) → toldOf (plantOf s) c ≡ 0 → maskOk (plantOf s .moves) (putBy mask c) ≡ true
+    unfolding putBy
+    put-ok (makes new room) e = make-ok s new room (make-told s new room accepted ∙ e) .mask-ok
+    put-ok (withdraws gone room drops) e = less-ok (plantOf s .moves) mask gone ok
+
+    -- any call leaves one there
+    pub after-ok : (c : Call) → maskOk (plantOf s .moves) (putAfter (plantOf s) mask c) ≡ true
+    after-ok c =
+        elim (decided (eqb (toldOf (plantOf s) c) 0)) [
+          | inl e ↦ rw e (put-ok c (eqb-true (toldOf (plantOf s) c) 0 e))
+          | inr e ↦ rw e ok
+        ]
+
+    -- and the book of a making afresh standing
+    pub after-afresh :
+        (c : Call) →
+        standingAfter s (madeBook (plantOf s) mask) c ≡ madeBook (plantOf s) (putAfter (plantOf s) mask c)
+    unfolding standingAfter
+    after-afresh c =
+        rw (answer-told c)
+        (elim (decided (eqb (toldOf (plantOf s) c) 0)) [
+          | inl e ↦ rw e (written-afresh c)
+          | inr e ↦ rw e refl
+        ])
+
+  -- after any list of calls the moves in service are the plant's
+  pub service-ok :
+      (mask : ℕ) (calls : List Call) → maskOk (plantOf s .moves) mask ≡ true →
+      maskOk (plantOf s .moves) (inService (plantOf s) mask calls) ≡ true
+  unfolding inService
+  service-ok mask [] ok = ok
+  service-ok mask (c ∷ cs) ok = service-ok (putAfter (plantOf s) mask c) cs (after-ok mask ok c)
+
+  -- the standing book is that of a making afresh
+  pub standing-afresh :
+      (mask : ℕ) (calls : List Call) → maskOk (plantOf s .moves) mask ≡ true →
+      standing s (madeBook (plantOf s) mask) calls ≡ madeBook (plantOf s) (inService (plantOf s) mask calls)
+  unfolding standing inService
+  standing-afresh mask [] ok = refl
+  standing-afresh mask (c ∷ cs) ok =
+      rw (after-afresh mask ok c) (standing-afresh (putAfter (plantOf s) mask c) cs (after-ok mask ok c))
+
+  -- so that it is accepted
+  pub standing-accepted :
+      (mask : ℕ) (calls : List Call) → maskOk (plantOf s .moves) mask ≡ true →
+      bookFault (standing s (madeBook (plantOf s) mask) calls) ≡ 0
+  standing-accepted mask calls ok =
+      rw (standing-afresh mask calls ok)
+      (made-accepted (plantOf s) (plant-ok s accepted) (inService (plantOf s) mask calls) (service-ok mask calls ok))
+
+  -- and each call answers as told from the calls alone
+  pub answers-told :
+      (mask : ℕ) (calls : List Call) → maskOk (plantOf s .moves) mask ≡ true →
+      answers s (madeBook (plantOf s) mask) calls ≡ told (plantOf s) calls
+  unfolding answers told
+  answers-told mask [] ok = refl
+  answers-told mask (c ∷ cs) ok =
+      rw (answer-told mask ok c, after-afresh mask ok c)
+      (ap (λ l. toldOf (plantOf s) c ∷ l) (answers-told (putAfter (plantOf s) mask c) cs (after-ok mask ok c)))
+
+-- demand 3
+pub demand-3 : Demand-3
+demand-3 =
+    record {
+      as-afresh = afresh;
+      told-alone = λ s mask room calls h.
+          let ok = make-ok s mask room h in
+          answers-told s (ok .plant) mask calls (ok .mask-ok);
+      equal-books = λ s mask room other-mask other-room calls other-calls h g.
+          let p = plantOf s in
+          let one = afresh s mask room calls h in
+          let two = afresh s other-mask other-room other-calls g in (
+            λ e. made-same p (inService p mask calls) (inService p other-mask other-calls) (sym one ∙ e ∙ two),
+            λ e. one ∙ ap (madeBook p) e ∙ sym two,
+          );
+    }
+  where
+    afresh :
+        (s : List ℕ) (mask room : ℕ) (calls : List Call) → makeFault s mask room ≡ 0 →
+        standing s (madeBook (plantOf s) mask) calls ≡ madeBook (plantOf s) (inService (plantOf s) mask calls)
+    afresh s mask room calls h =
+        let ok = make-ok s mask room h in
+        standing-afresh s (ok .plant) mask calls (ok .mask-ok)

@@ -1,0 +1,8 @@
+-- Demands 2 and 3 proved, and the laws of books that lead there. Each file leans on those above it alone.
+pub mod Plants
+pub mod Winners
+pub mod Same
+pub mod Books
+pub mod Demand2
+pub mod Afresh
+pub mod Demand3

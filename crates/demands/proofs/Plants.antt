@@ -1,0 +1,90 @@
+-- What an accepted call gives of its plant, its moves in service and the states it may not leave, and that the numbers
+-- of its book then fit: waits are below the number of kept states, and listed moves are available. Assumes nothing.
+use mathlib.Core.Path.{_≡_}
+use mathlib.Core.Bool.{Bool, true, not}
+use mathlib.Core.List.{List}
+use Prim.Native.Nat.{ℕ, _<_}
+use native.Mathlib.Omega.{arith}
+use Rattle.statements.specs.Sets.{numbers}
+use Rattle.statements.specs.Plants.{Plant, plantOf, ends, allowed}
+use Rattle.statements.specs.Kept.{keptWithin, waitOf, nearer, listedMove}
+use Rattle.statements.specs.Books.{isLost, bookMask, maskOk, lessMask, keptBefore}
+use Rattle.statements.specs.Calls.{makeFault, withdrawFault}
+use Rattle.sets.proofs.Tests.{and-left}
+use Rattle.sets.proofs.Members.{length-numbers}
+use Rattle.sets.proofs.Iterate.{sifted-length}
+use Rattle.kept.proofs.Moves.{MovesBelow, available-bit, into-available}
+use Rattle.kept.proofs.Kept.{kept-sifted, kept-forced}
+use Rattle.kept.proofs.Waits.{wait-short, listed-into}
+use Rattle.decoding.proofs.Fits.{Fits}
+use Rattle.decoding.proofs.Masks.{less-ok}
+use Rattle.decoding.proofs.Faults.{PlantOk, plant-ok, arrow-range, allowed-below, make-ok, withdraw-ok}
+
+-- an accepted plant, a mask of its moves, and a test that holds at states alone
+pub record Given (p : Plant) (mask : ℕ) (within : ℕ → Bool) : Type 0 where
+  pub plant : PlantOk p
+  pub mask-ok : maskOk (p .moves) mask ≡ true
+  pub below : (x : ℕ) → within x ≡ true → x < p .states
+
+-- every arrow of an accepted plant has one of its moves
+pub moves-below : (p : Plant) → PlantOk p → MovesBelow p
+unfolding ends
+moves-below p ok x u y h = arrow-range (p .arrows) (p .states) (p .moves) 0 x u y (ok .arrows-ok) h .0
+
+-- what a withdrawal may not leave is allowed
+pub before-allowed : (p : Plant) (b : List ℕ) (x : ℕ) → keptBefore p b x ≡ true → allowed p x ≡ true
+unfolding keptBefore
+before-allowed p b x h = and-left (allowed p x) (not (isLost b x)) h
+
+-- making for an accepted plant, with a mask of its moves
+pub given-allowed : (p : Plant) (mask : ℕ) → PlantOk p → maskOk (p .moves) mask ≡ true → Given p mask (allowed p)
+given-allowed p mask ok m = record { plant = ok; mask-ok = m; below = allowed-below p ok }
+
+-- an accepted make
+pub given-made : (s : List ℕ) (mask room : ℕ) → makeFault s mask room ≡ 0
+    → Given (plantOf s) mask (allowed (plantOf s))
+given-made s mask room h =
+    let ok = make-ok s mask room h in
+    given-allowed (plantOf s) mask (plant-ok s (ok .plant)) (ok .mask-ok)
+
+-- an accepted withdrawal
+pub given-withdrawn : (s b : List ℕ) (gone room drops : ℕ) → withdrawFault s b gone room drops ≡ 0
+    → Given (plantOf s) (lessMask (bookMask b) gone) (keptBefore (plantOf s) b)
+given-withdrawn s b gone room drops h =
+    let p = plantOf s in
+    let ok = withdraw-ok s b gone room drops h in
+    let plant-is-ok = plant-ok s (ok .plant) in
+    record {
+      plant = plant-is-ok;
+      mask-ok = less-ok (p .moves) (bookMask b) gone (ok .mask-ok);
+      below = λ x w. allowed-below p plant-is-ok x (before-allowed p b x w);
+    }
+
+module _ {p : Plant} {mask : ℕ} {within : ℕ → Bool} (given : Given p mask within) where
+  -- there is a goal
+  pub some-goal : 0 < p .goals
+  some-goal = omega arith
+
+  -- the numbers of the book fit its bytes
+  pub given-fits : Fits p mask (keptWithin p mask within)
+  given-fits =
+      let kept = keptWithin p mask within in
+      let all = numbers (p .states) 0 in
+      let fixed = kept-forced p mask within in
+      record {
+        sizes = given .plant .sizes;
+        mask-ok = given .mask-ok;
+        kept-set = kept-sifted p mask within;
+        waits = λ x i h hi.
+            omega (
+              arith,
+              wait-short p mask kept some-goal fixed i hi x h,
+              length-numbers (p .states) 0,
+              sifted-length all kept (kept-sifted p mask within),
+            );
+        moves-ok = λ x i h hi.
+            let w = waitOf p mask kept i x in
+            let u = listedMove p mask kept i x in
+            let r = listed-into p mask kept some-goal fixed i hi x h in
+            (r .0, available-bit p mask x u (into-available p mask (nearer p mask kept i w) x u (r .1)));
+      }

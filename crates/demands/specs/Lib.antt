@@ -1,0 +1,1 @@
+-- No definitions of its own: the demands are those of crate statements, specs/Demands.antt.
