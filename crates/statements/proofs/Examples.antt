@@ -7,14 +7,14 @@ use Rattle.statements.specs.Plants.{plantFault, allowed, inGoal, endsIn,
 use Rattle.statements.specs.Plants.{can}
 use Rattle.statements.specs.Kept.{grown, target, forced, forcedAll, keptRound, keptWithin, level, waitOf}
 use Rattle.statements.specs.Kept.{nearer, listedMove}
-use Rattle.statements.specs.Books.{two, bookLong, entryOf, rowOf, headOf, bookBytes, bookStates, bookMoves}
+use Rattle.statements.specs.Books.{two, bytesOf, bookLong, entryOf, rowOf, headOf, bookBytes, bookStates, bookMoves}
 use Rattle.statements.specs.Books.{bookGoals, bookCount, bookMask, waitAt, moveAt, isLost, isHeld, bookKept}
 use Rattle.statements.specs.Books.{maskOk, bookHeadOk, rowsOk, bookFault, nextGoal, lessMask, bookWithin}
 use Rattle.statements.specs.Books.{madeBook, keptBefore, withdrawnBook, droppedStates}
 use Rattle.statements.specs.Calls.{maskFault, bookRoom, dropRoom, makeFault, alike, withdrawFault, consultFault}
 use Rattle.statements.specs.Calls.{rowPart, answerOf, writtenBy, standingAfter, standing, answers, toldOf, told}
 use Rattle.statements.specs.Calls.{putBy, inService}
-use Rattle.statements.specs.Marked.{bytesOf, plantP, plantStill, plantLoop, plantMay, plantEnd, bookP, lostRow}
+use Rattle.statements.specs.Marked.{plantP, plantStill, plantLoop, plantMay, plantEnd, bookP, lostRow}
 use Rattle.statements.specs.Marked.{bookM1, bookM9, allLost, Makes, Withdraws, Consults, Marked}
 
 pub marked : Marked

@@ -13,6 +13,11 @@ use Rattle.statements.specs.Kept.{keptWithin, waitOf, listedMove}
 unfoldable pub two : ℕ → List ℕ
 two v = v % 256 ∷ (v / 256 ∷ [])
 
+-- the bytes of a list of two-byte numbers
+unfoldable pub bytesOf : List ℕ → List ℕ
+bytesOf [] = []
+bytesOf (v ∷ vs) = two v ++ bytesOf vs
+
 -- marks a lost state, and nothing else
 abbrev pub lostMark : ℕ
 lostMark = 65535

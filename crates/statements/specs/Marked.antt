@@ -4,12 +4,8 @@ use mathlib.Core.Bool.{Bool, true, false}
 use mathlib.Core.List.{List, [], _∷_, _++_}
 use Prim.Native.Nat.{ℕ, zero, suc, _-_}
 use Rattle.statements.specs.Plants.{Plant, plantOf}
-use Rattle.statements.specs.Books.{two, waitAt, moveAt, nextGoal, madeBook, withdrawnBook, droppedStates}
+use Rattle.statements.specs.Books.{bytesOf, waitAt, moveAt, nextGoal, madeBook, withdrawnBook, droppedStates}
 use Rattle.statements.specs.Calls.{makeFault, withdrawFault, consultFault}
-
-unfoldable pub bytesOf : List ℕ → List ℕ
-bytesOf [] = []
-bytesOf (v ∷ vs) = two v ++ bytesOf vs
 
 -- strip plant P: header, labels 3 1 5 0, then the eight arrows
 unfoldable pub plantP : List ℕ
