@@ -1,0 +1,139 @@
+-- Consulting a book and handing back a row, case by case: refused, lost, kept. Assumes nothing.
+use mathlib.Core.Path.{_≡_, refl, sym, ap, ap₂, _∙_}
+use mathlib.Core.Bool.{Bool, true, false, _||_, not, true≢false}
+use mathlib.Core.List.{List, []}
+use Prim.Native.Nat.{ℕ, _+_, _-_, _*_, _≤_, _<_}
+use native.Mathlib.Omega.{arith}
+use lib.Dec.{eqb, leb}
+use lib.ListN.{length, take, drop, length-drop}
+use lib.Seq.{length-take-le}
+use borrow.Author.Tests.{eq-eqb, ne-eqb, leb-false}
+use Rattle.statements.specs.Books.{bookStates, bookGoals, waitAt, moveAt, isLost, bookFault, nextGoal}
+use Rattle.statements.specs.Calls.{consultFault, rowPart}
+use Rattle.books.specs.Says.{accepted, keeps, ConsultSays, rowStart}
+use Rattle.format.proofs.Header.{BookHead, book-head}
+use Rattle.format.proofs.Faults.{first-given, both-none, when-none, book-fine}
+use Rattle.format.proofs.Rows.{row-within}
+
+-- a test of two that fails
+or-false : (a b : Bool) → (a || b) ≡ false → (a ≡ false) × (b ≡ false)
+or-false true b e = (e, absurd (true≢false e))
+or-false false b e = (refl, e)
+
+module _ (b : List ℕ) (x i : ℕ) where
+  -- a book that is not accepted gives its own answer
+  pub refused-book : (bookFault b ≡ 0 → ⊥) → consultFault b x i ≡ bookFault b
+  unfolding consultFault
+  refused-book h = first-given (bookFault b) _ h
+
+  -- a number out of range gives 8
+  pub refused-number : bookFault b ≡ 0 → (leb (bookStates b) x || leb (bookGoals b) i) ≡ true → consultFault b x i ≡ 8
+  unfolding consultFault
+  refused-number h t = rw (h, t)
+
+  -- otherwise the call is accepted
+  pub none-refused : bookFault b ≡ 0 → (leb (bookStates b) x || leb (bookGoals b) i) ≡ false → consultFault b x i ≡ 0
+  unfolding consultFault
+  none-refused h t = rw (h, t)
+
+  -- what an accepted call may rely on
+  pub record Fine : Type 0 where
+    pub head : BookHead b
+    pub state : x < bookStates b
+    pub goal : i < bookGoals b
+
+  -- an accepted call may rely on all that
+  pub fine : consultFault b x i ≡ 0 → Fine
+  unfolding consultFault
+  fine e =
+      let f = both-none _ _ e in
+      let t = or-false _ _ (when-none _ 7 (f .1)) in
+      record {
+        head = book-head b (book-fine b (f .0) .head);
+        state = leb-false _ _ (t .0);
+        goal = leb-false _ _ (t .1);
+      }
+
+  -- consult's answer: refused
+  pub says-refused : (n : ℕ) → n ≡ consultFault b x i → (n ≡ 0 → ⊥)
+      → ConsultSays b x i (record { number = n; lost = false; action = 0; wait = 0; seek = 0 })
+  unfolding accepted keeps
+  says-refused n e h =
+      let no : eqb (consultFault b x i) 0 ≡ false = ne-eqb _ _ (λ z. h (e ∙ z)) in
+      record { number = e; lost = rw no; action = rw no; wait = rw no; seek = rw no }
+
+  -- lost
+  pub says-lost : consultFault b x i ≡ 0 → isLost b x ≡ true
+      → ConsultSays b x i (record { number = 0; lost = true; action = 0; wait = 0; seek = 0 })
+  unfolding accepted keeps
+  says-lost e l = record { number = sym e; lost = rw (e, l); action = rw (e, l); wait = rw (e, l); seek = rw (e, l) }
+
+  -- kept
+  pub says-kept : consultFault b x i ≡ 0 → isLost b x ≡ false
+      → (u w g : ℕ) → u ≡ moveAt b x i → w ≡ waitAt b x i → g ≡ nextGoal b x i
+      → ConsultSays b x i (record { number = 0; lost = false; action = u; wait = w; seek = g })
+  unfolding accepted keeps
+  says-kept e l u w g ue we ge =
+      record { number = sym e; lost = rw (e, l); action = rw (e, l) ue; wait = rw (e, l) we; seek = rw (e, l) ge }
+
+-- a row: refused
+module _ (b : List ℕ) (x : ℕ) (refused : consultFault b x 0 ≡ 0 → ⊥) where
+  -- a call with an answer is not accepted
+  not-accepted : accepted b x 0 ≡ false
+  unfolding accepted
+  not-accepted = ne-eqb _ _ refused
+
+  -- no bytes are handed back
+  pub no-row : rowPart b x ≡ []
+  unfolding rowPart
+  no-row = rw (ne-eqb _ _ refused)
+
+  -- the part starts where the book does
+  pub no-start : rowStart b x ≡ 0
+  unfolding rowStart
+  no-start = rw not-accepted
+
+  -- the part is empty just when the call is not accepted
+  pub empty-row : not (accepted b x 0) ≡ true
+  empty-row = ap not not-accepted
+
+-- handed back
+module _ (b : List ℕ) (x : ℕ) (given : consultFault b x 0 ≡ 0) where
+  -- a call with no answer is accepted
+  is-accepted : accepted b x 0 ≡ true
+  unfolding accepted
+  is-accepted = eq-eqb _ _ given
+
+  -- the state's entries are handed back
+  pub row-given : rowPart b x ≡ take (4 * bookGoals b) (drop (16 + 4 * (x * bookGoals b)) b)
+  unfolding rowPart
+  row-given = rw given
+
+  -- the part starts at the first of them
+  pub start-given : rowStart b x ≡ 16 + 4 * (x * bookGoals b)
+  unfolding rowStart
+  start-given = rw is-accepted
+
+  -- the row stands within the book
+  pub row-fits : 16 + 4 * (x * bookGoals b) + 4 * bookGoals b ≤ length b
+  row-fits =
+      let f = fine b x 0 given in
+      omega (arith, f .head .long, row-within x (bookGoals b) (f .state))
+
+  -- it has four bytes for each goal
+  pub length-row : length (rowPart b x) ≡ 4 * bookGoals b
+  length-row = ap length row-given ∙ length-take-le _ _ (rw length-drop (omega (arith, row-fits)))
+
+  -- so it is not empty
+  pub full-row : eqb (length (rowPart b x)) 0 ≡ not (accepted b x 0)
+  full-row =
+      let f = fine b x 0 given in
+      rw is-accepted (ne-eqb (length (rowPart b x)) 0 (λ z. omega (arith, length-row, f .goal, z)))
+
+  -- the part that starts at the row's first entry
+  pub row-is : (at n : ℕ) → at ≡ 16 + 4 * (x * bookGoals b + 0) → n ≡ bookGoals b
+      → take (at + 4 * n - at) (drop at b) ≡ rowPart b x
+  row-is at n p e =
+      let size : at + 4 * n - at ≡ 4 * bookGoals b = omega arith in
+      let start : at ≡ 16 + 4 * (x * bookGoals b) = omega arith in
+      ap₂ (λ (m q : ℕ). take m (drop q b)) size start ∙ sym row-given

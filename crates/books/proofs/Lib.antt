@@ -1,0 +1,2 @@
+-- Laws of what the public calls promise.
+pub mod Consulted

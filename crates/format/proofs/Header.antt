@@ -1,0 +1,60 @@
+-- Headers of plants and books: what a good one says of the counts and the length. Assumes nothing.
+use mathlib.Core.Path.{_≡_, refl}
+use mathlib.Core.Logic.{_↔_}
+use mathlib.Core.Bool.{Bool, true, false, _&&_, false≢true}
+use mathlib.Core.List.{List}
+use Prim.Native.Nat.{ℕ, _+_, _*_, _≤_}
+use native.Mathlib.Omega.{arith}
+use lib.Dec.{eqb, leb}
+use lib.ListN.{length}
+use borrow.Author.Tests.{leb-true, eqb-true, le-leb, eq-eqb}
+use Rattle.statements.specs.Plants.{word, headOk}
+use Rattle.statements.specs.Books.{bookStates, bookMoves, bookGoals, bookMask, bookLong, maskOk, bookHeadOk}
+
+-- a conjunction of tests holds when both do
+pub and-iff : (a b : Bool) → (a && b ≡ true) ↔ ((a ≡ true) × (b ≡ true))
+and-iff true b = ((λ e. (refl, e)), (λ e. e .1))
+and-iff false b = ((λ e. (e, absurd (false≢true e))), (λ e. e .0))
+
+-- a test of order holds when the numbers are so ordered
+pub leb-iff : (a b : ℕ) → (leb a b ≡ true) ↔ (a ≤ b)
+leb-iff a b = (leb-true a b, le-leb a b)
+
+-- a test of equality holds when the numbers are equal
+pub eqb-iff : (a b : ℕ) → (eqb a b ≡ true) ↔ (a ≡ b)
+eqb-iff a b = (eqb-true a b, eq-eqb a b)
+
+-- counts of states, moves and goals in range
+pub record Counts (states moves goals : ℕ) : Type 0 where
+  pub states-some : 1 ≤ states
+  pub states-most : states ≤ 1024
+  pub moves-some : 1 ≤ moves
+  pub moves-most : moves ≤ 32
+  pub goals-some : 1 ≤ goals
+  pub goals-most : goals ≤ 8
+
+-- what a good header says of a plant
+pub record PlantHead (s : List ℕ) : Type 0 where
+  pub counts : Counts (word 0 s) (word 1 s) (word 2 s)
+  pub arrows-most : word 3 s ≤ 8192
+  pub long : length s ≡ 16 + (2 * word 0 s + 6 * word 3 s)
+
+-- the header check of a plant says all that
+pub plant-head : (s : List ℕ) → headOk s ≡ true → PlantHead s
+unfolding headOk
+plant-head s h =
+    let k = simp (and-iff, leb-iff, eqb-iff) at h in
+    omega arith
+
+-- what a good header says of a book
+pub record BookHead (b : List ℕ) : Type 0 where
+  pub counts : Counts (bookStates b) (bookMoves b) (bookGoals b)
+  pub mask-in : maskOk (bookMoves b) (bookMask b) ≡ true
+  pub long : length b ≡ 16 + 4 * (bookStates b * bookGoals b)
+
+-- the header check of a book says all that
+pub book-head : (b : List ℕ) → bookHeadOk b ≡ true → BookHead b
+unfolding bookHeadOk bookLong
+book-head b h =
+    let k = simp (and-iff, leb-iff, eqb-iff) at h in
+    record { counts = omega arith; mask-in = search; long = omega arith }

@@ -1,0 +1,135 @@
+// A plant's bytes: header, labels, arrows.
+use crate::word::bit_at;
+use crate::word::number;
+use crate::word::word_at;
+use crate::word::word_in;
+ghost use mathlib.Core.Path.{_≡_};
+ghost use mathlib.Core.Bool.{true};
+ghost use Prim.Native.Nat.{_+_, _*_, _≤_};
+ghost use lib.ListN.{length, getD, drop};
+ghost use Rattle.format.specs.Checks.{labelsFine, arrowsFine};
+ghost use Rattle.statements.specs.Plants.{labelsFrom, arrowsFrom, plantOf, allowed, inGoal};
+ghost use Rattle.statements.specs.Plants.{headOk, labelsOk, arrowsOk};
+
+// The header is as document 01 says, and the slice is as long as the header says.
+pub(crate) fn head_ok(plant: &[u8]) -> bool
+    ensures { λ r. ⌜ r ≡ headOk (now (plant .entry)) ⌝ }
+{
+    if plant.len() < 16 {
+        return false;
+    }
+    let s = number(plant, 0) as usize;
+    let u = number(plant, 1);
+    let n = number(plant, 2);
+    let e = number(plant, 3) as usize;
+    let labels = number(plant, 4);
+    let arrows = number(plant, 5) as usize;
+    let total = number(plant, 6) as usize;
+    let last = number(plant, 7);
+    (1 <= s)
+        & ((s <= 1024)
+            & ((1 <= u)
+                & ((u <= 32)
+                    & ((1 <= n)
+                        & ((n <= 8)
+                            & ((e <= 8192)
+                                & ((labels == 16)
+                                    & ((arrows == 16 + 2 * s)
+                                        & ((total == 16 + (2 * s + 6 * e))
+                                            & ((last == 0) & (plant.len() == total)))))))))))
+}
+
+// No label of the slice's first ones, as many as given from byte 16 on, has a bit above bit `goals`.
+fn labels_within(plant: &[u8], count: usize, goals: u32) -> bool
+    requires room { ⌜ 16 + 2 * count ≤ length (now plant) ⌝ }
+    requires few { ⌜ goals ≤ 8 ⌝ }
+    ensures { λ r. ⌜ r ≡ labelsOk goals (labelsFrom count (drop 16 (now (plant .entry)))) ⌝ }
+{
+    let limit: u32 = 1 << (goals + 1);
+    let mut at = 16;
+    let mut left = count;
+    while 0 < left {
+        if limit <= (word_in(plant, at) as u32) {
+            return false;
+        }
+        at += 2;
+        left -= 1;
+    }
+    true
+}
+
+// The number by which arrows are compared.
+fn rank_of(from: u16, action: u16, to: u16) -> u64
+    ensures { λ r. ⌜ r ≡ 65536 * (65536 * from) + (65536 * action + to) ⌝ }
+{
+    65536 * (65536 * (from as u64)) + (65536 * (action as u64) + (to as u64))
+}
+
+// The arrows from a place on, as many as given, are in range and strictly ascend by from, move and to.
+fn arrows_ascend(plant: &[u8], start: usize, count: usize, states: u16, moves: u16) -> bool
+    requires { ⌜ start + 6 * count ≤ length (now plant) ⌝ }
+    ensures { λ r. ⌜ r ≡ arrowsOk states moves 0 (arrowsFrom count (drop start (now (plant .entry)))) ⌝ }
+{
+    let mut at = start;
+    let mut left = count;
+    let mut least: u64 = 0;
+    while 0 < left {
+        let from = word_in(plant, at);
+        let action = word_in(plant, at + 2);
+        let to = word_in(plant, at + 4);
+        let rank = rank_of(from, action, to);
+        if !((from < states) & ((action < moves) & ((to < states) & (least <= rank)))) {
+            return false;
+        }
+        least = rank + 1;
+        at += 6;
+        left -= 1;
+    }
+    true
+}
+
+// Every label of a plant with a good header is in range.
+pub(crate) fn labels_ok(plant: &[u8]) -> bool
+    requires { ⌜ headOk (now plant) ≡ true ⌝ }
+    ensures { λ r. ⌜ r ≡ labelsFine (plantOf (now (plant .entry))) ⌝ }
+{
+    labels_within(plant, number(plant, 0) as usize, number(plant, 2) as u32)
+}
+
+// Every arrow of a plant with a good header is in range, and the arrows strictly ascend.
+pub(crate) fn arrows_ok(plant: &[u8]) -> bool
+    requires { ⌜ headOk (now plant) ≡ true ⌝ }
+    ensures { λ r. ⌜ r ≡ arrowsFine (plantOf (now (plant .entry))) ⌝ }
+{
+    let s = number(plant, 0);
+    let start = 16 + 2 * (s as usize);
+    arrows_ascend(plant, start, number(plant, 3) as usize, s, number(plant, 1))
+}
+
+// The label of a state; 0 for a number that is no state.
+pub fn label(plant: &[u8], state: u32) -> u16
+    ensures { λ r. ⌜ r ≡ getD (plantOf (now (plant .entry)) .labels) state 0 ⌝ }
+{
+    if (number(plant, 0) as u32) <= state {
+        return 0;
+    }
+    word_at(plant, 16 + 2 * (state as usize))
+}
+
+// A state is allowed.
+pub fn is_allowed(plant: &[u8], state: u32) -> bool
+    ensures { λ r. ⌜ r ≡ allowed (plantOf (now (plant .entry))) state ⌝ }
+{
+    bit_at(label(plant, state) as u32, 0)
+}
+
+// A state is in a goal.
+pub fn in_goal(plant: &[u8], goal: u32, state: u32) -> bool
+    ensures { λ r. ⌜ r ≡ inGoal (plantOf (now (plant .entry))) goal state ⌝ }
+{
+    let bits = label(plant, state) as u32;
+    if 31 <= goal {
+        return false;
+    }
+    bit_at(bits, goal + 1)
+}
