@@ -1,2 +1,3 @@
--- What the public calls promise.
+-- What the public calls promise, and demand 3 over the calls as they go.
 pub mod Says
+pub mod Traces

@@ -1,13 +1,17 @@
 -- What the public calls promise, field by field, in the definitions of crate statements.
 use mathlib.Core.Path.{_≡_}
 use mathlib.Core.Bool.{Bool, _&&_, not}
-use mathlib.Core.List.{List}
+use mathlib.Core.List.{List, [], _∷_, _++_}
 use Prim.Native.Nat.{ℕ, _+_, _*_}
 use lib.Dec.{eqb}
+use lib.ListN.{length, drop}
 use Rattle.books.specs.declared.Advice.{Advice}
+use Rattle.books.specs.declared.Answer.{Answer}
 use Rattle.statements.specs.Sets.{pick}
+use Rattle.statements.specs.Plants.{when, plantOf, labelsFrom}
 use Rattle.statements.specs.Books.{bookGoals, waitAt, moveAt, isLost, nextGoal}
-use Rattle.statements.specs.Calls.{consultFault}
+use Rattle.statements.specs.Books.{madeBook, withdrawnBook, droppedStates}
+use Rattle.statements.specs.Calls.{consultFault, makeFault, withdrawFault}
 
 -- a call on a book is accepted
 unfoldable pub accepted : List ℕ → ℕ → ℕ → Bool
@@ -29,3 +33,38 @@ pub record ConsultSays (b : List ℕ) (x i : ℕ) (r : Advice) : Type 0 where
 -- where in a book b the row of state x starts; 0 when refused
 unfoldable pub rowStart : List ℕ → ℕ → ℕ
 rowStart b x = pick (accepted b x 0) (16 + 4 * (x * bookGoals b)) 0
+
+-- bytes written over the first of a buffer; the bytes past them stay
+unfoldable pub over : List ℕ → List ℕ → List ℕ
+over bytes buffer = bytes ++ drop (length bytes) buffer
+
+-- making the book of a plant's bytes s with a mask, in a book buffer that holds o before and o′ after: the number is 1,
+-- 2, 3, 6, 7 or 0; an accepted call writes the book from the buffer's first byte on and returns its length; a refused
+-- one writes nothing and has 0 in every other field
+pub record MakeSays (s : List ℕ) (mask : ℕ) (o o′ : List ℕ) (r : Answer) : Type 0 where
+  pub number : r .number ≡ makeFault s mask (length o)
+  pub length-is : r .length ≡ pick (eqb (r .number) 0) (length (madeBook (plantOf s) mask)) 0
+  pub drops : r .drops ≡ 0
+  pub book : o′ ≡ pick (eqb (r .number) 0) (over (madeBook (plantOf s) mask) o) o
+
+-- how often a number stands in a list
+unfoldable pub timesIn : ℕ → List ℕ → ℕ
+timesIn x [] = 0
+timesIn x (y ∷ ys) = when (eqb x y) 1 + timesIn x ys
+
+-- a drop buffer that held d holds d′: each of these states once, in any order (the one thing that document 01 leaves
+-- open), and past them the bytes it held
+pub record Lists (states d d′ : List ℕ) : Type 0 where
+  pub each : (x : ℕ) → timesIn x (labelsFrom (length states) d′) ≡ timesIn x states
+  pub size : length d′ ≡ length d
+  pub past : drop (2 * length states) d′ ≡ drop (2 * length states) d
+
+-- withdrawing moves from a book b: the number is 1 to 7 or 0; an accepted call writes the book and the list of dropped
+-- states and returns the book's length and their number; a refused one writes nothing and has 0 in every other field
+pub record WithdrawSays (s b : List ℕ) (gone : ℕ) (o o′ d d′ : List ℕ) (r : Answer) : Type 0 where
+  pub number : r .number ≡ withdrawFault s b gone (length o) (length d)
+  pub length-is : r .length ≡ pick (eqb (r .number) 0) (length (withdrawnBook (plantOf s) b gone)) 0
+  pub drops : r .drops ≡ pick (eqb (r .number) 0) (length (droppedStates b (withdrawnBook (plantOf s) b gone))) 0
+  pub book : o′ ≡ pick (eqb (r .number) 0) (over (withdrawnBook (plantOf s) b gone) o) o
+  pub listed : r .number ≡ 0 → Lists (droppedStates b (withdrawnBook (plantOf s) b gone)) d d′
+  pub unlisted : (r .number ≡ 0 → ⊥) → d′ ≡ d

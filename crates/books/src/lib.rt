@@ -1,5 +1,8 @@
-// The public calls on a control book: consult it for a move, and hand back a state's row.
+// The public calls: make a control book, withdraw moves from one, consult it for a move, hand back a state's row.
 mod consult;
+mod refuse;
+mod start;
+mod write;
 
 ghost use mathlib.Core.Path.{_≡_};
 ghost use mathlib.Core.Bool.{not};
@@ -7,7 +10,8 @@ ghost use Prim.Native.Nat.{_+_};
 ghost use lib.Dec.{eqb};
 ghost use lib.ListN.{length};
 ghost use Rattle.statements.specs.Calls.{rowPart};
-ghost use Rattle.books.specs.Says.{accepted, ConsultSays, rowStart};
+ghost use Rattle.books.specs.Says.{accepted, ConsultSays, rowStart, MakeSays, WithdrawSays};
+ghost use Rattle.books.specs.Traces.{Demands};
 
 // What consult answers. A refused call has its number, and 0 in every other field; a lost state has `lost`, and 0 in
 // the others; otherwise the move (`action`), the wait and the goal to seek next.
@@ -58,4 +62,68 @@ pub fn state_row<'a>(book: &'a [u8], state: u32) -> &'a [u8]
     let start = format::book::entry_place(book, state, 0);
     let end = start + 4 * (format::word::number(book, 2) as usize);
     &book[start..end]
+}
+
+// What make and withdraw answer: the number of a refusal or 0, the length of the book written and the number of states
+// dropped. A refused call has 0 in both.
+pub struct Answer {
+    pub number: u8,
+    pub length: u32,
+    pub drops: u32,
+}
+
+// Takes a plant, a mask and a book buffer. Writes the book and returns its length.
+pub fn make_book(plant: &[u8], mask: u32, out: &mut [u8]) -> Answer
+    ensures { λ r. ⌜ MakeSays (now (plant .entry)) mask (now (out .entry)) (now (out .exit)) r ⌝ }
+    ensures demands { λ _. ⌜ Demands ⌝ }
+{
+    let fault = refuse::make(plant, mask, out.len());
+    if fault != 0 {
+        return Answer {
+            number: fault,
+            length: 0,
+            drops: 0,
+        };
+    }
+    let mut flags = [0u8; 1024];
+    start::allowed(plant, &mut flags);
+    let length = write::book(plant, mask, &flags, out);
+    Answer {
+        number: 0,
+        length: length,
+        drops: 0,
+    }
+}
+
+// Takes a plant, a book, a mask of moves to withdraw, a book buffer and a drop buffer. Writes the book, and each state
+// kept before and lost now; returns the book's length and the number dropped.
+pub fn withdraw_moves(
+    plant: &[u8],
+    book: &[u8],
+    mask: u32,
+    out: &mut [u8],
+    drops: &mut [u8],
+) -> Answer
+    ensures { λ r. ⌜ WithdrawSays (now (plant .entry)) (now (book .entry)) mask (now (out .entry)) (now (out .exit)) (now (drops .entry)) (now (drops .exit)) r ⌝ }
+    ensures demands { λ _. ⌜ Demands ⌝ }
+{
+    let fault = refuse::withdraw(plant, book, mask, out.len(), drops.len());
+    if fault != 0 {
+        return Answer {
+            number: fault,
+            length: 0,
+            drops: 0,
+        };
+    }
+    let mut flags = [0u8; 1024];
+    start::allowed(plant, &mut flags);
+    start::kept(book, &mut flags);
+    let old = format::book::mask(book);
+    let length = write::book(plant, old - (old & mask), &flags, out);
+    let count = write::dropped(book, &out[..length as usize], drops);
+    Answer {
+        number: 0,
+        length: length,
+        drops: count,
+    }
 }

@@ -35,7 +35,7 @@ forcedAll-in (suc n) p mask all x a f =
     filter-in (λ z. isIn z (forced p mask all n)) (forcedAll n p mask all) x
     (forcedAll-in n p mask all x a (λ i l. f i (omega arith))) (f n (omega arith))
 
-forcedAll-sifted : (n : ℕ) (p : Plant) (mask : ℕ) (base all : List ℕ) → Sifted base all →
+pub forcedAll-sifted : (n : ℕ) (p : Plant) (mask : ℕ) (base all : List ℕ) → Sifted base all →
     Sifted base (forcedAll n p mask all)
 unfolding forcedAll
 forcedAll-sifted zero p mask base all s = s

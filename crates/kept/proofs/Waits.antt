@@ -79,13 +79,18 @@ module _ (p : Plant) (mask : ℕ) (kept : List ℕ) (some-goal : 0 < p .goals) (
     unfolding level iterate
     level-can n x k h = grown-can p mask kept (iterate n (grown p mask kept) (filter (inGoal p i) kept)) x k h
 
-    -- the last level holds every kept state
-    forced-is-level : forced p mask kept i ≡ level p mask kept i (length kept)
-    unfolding forced level target
-    forced-is-level =
-        ap (iterate (length kept) (grown p mask kept))
+    -- every kept state of the goal can go on, so that the steps from the target are the levels
+    pub steps-level : (n : ℕ) → iterate n (grown p mask kept) (target p mask kept i) ≡ level p mask kept i n
+    unfolding level target
+    steps-level n =
+        ap (iterate n (grown p mask kept))
         (filter-same (λ z. inGoal p i z && can p mask kept z) (inGoal p i) kept
         (λ x m. and-with (inGoal p i x) (can p mask kept x) (kept-can x m)))
+
+    -- the last level holds every kept state
+    forced-is-level : forced p mask kept i ≡ level p mask kept i (length kept)
+    unfolding forced
+    forced-is-level = steps-level (length kept)
 
     -- a level that is not empty leads down to the goal
     level-bottom : (n x : ℕ) → isIn x (level p mask kept i n) ≡ true →

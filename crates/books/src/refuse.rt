@@ -1,0 +1,64 @@
+// The numbers that make and withdraw return.
+use format::book::mask_ok;
+use format::book_fault;
+use format::plant_fault;
+use format::word::number;
+ghost use mathlib.Core.Path.{_≡_};
+ghost use Rattle.statements.specs.Plants.{plantOf};
+ghost use Rattle.statements.specs.Calls.{bookRoom, alike, makeFault, withdrawFault};
+
+// A book buffer is long enough for a plant's book.
+fn book_room(plant: &[u8], room: usize) -> bool
+    ensures { λ r. ⌜ r ≡ bookRoom (plantOf (now (plant .entry))) room ⌝ }
+{
+    16 + 4 * ((number(plant, 0) as usize) * (number(plant, 2) as usize)) <= room
+}
+
+// What make returns: 1, 2, 3, 6, 7, or 0 when it is accepted.
+pub(crate) fn make(plant: &[u8], mask: u32, room: usize) -> u8
+    ensures { λ r. ⌜ r ≡ makeFault (now (plant .entry)) mask room ⌝ }
+{
+    let fault = plant_fault(plant);
+    if fault != 0 {
+        return fault;
+    }
+    if !mask_ok(number(plant, 1) as u32, mask) {
+        return 6;
+    }
+    if !book_room(plant, room) {
+        return 7;
+    }
+    0
+}
+
+// A book is for as many states, moves and goals as a plant has.
+fn alike(plant: &[u8], book: &[u8]) -> bool
+    ensures { λ r. ⌜ r ≡ alike (plantOf (now (plant .entry))) (now (book .entry)) ⌝ }
+{
+    (number(book, 0) == number(plant, 0))
+        & ((number(book, 1) == number(plant, 1)) & (number(book, 2) == number(plant, 2)))
+}
+
+// What withdraw returns: 1 to 7, or 0 when it is accepted.
+pub(crate) fn withdraw(plant: &[u8], book: &[u8], gone: u32, room: usize, drops: usize) -> u8
+    ensures { λ r. ⌜ r ≡ withdrawFault (now (plant .entry)) (now (book .entry)) gone room drops ⌝ }
+{
+    let fault = plant_fault(plant);
+    if fault != 0 {
+        return fault;
+    }
+    let wrong = book_fault(book);
+    if (wrong == 4) | !alike(plant, book) {
+        return 4;
+    }
+    if wrong != 0 {
+        return wrong;
+    }
+    if !mask_ok(number(plant, 1) as u32, gone) {
+        return 6;
+    }
+    if !(book_room(plant, room) & (2 * (number(plant, 0) as usize) <= drops)) {
+        return 7;
+    }
+    0
+}

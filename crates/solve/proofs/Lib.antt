@@ -1,0 +1,14 @@
+-- Laws that the proofs of the solver share.
+pub mod Search
+pub mod TableUpTo
+pub mod TableGroups
+pub mod TableFilling
+pub mod TableLoading
+pub mod ReachTurns
+pub mod ReachSteps
+pub mod RoundsLists
+pub mod RoundsStore
+pub mod RoundsSets
+pub mod RoundsKept
+pub mod RoundsRows
+pub mod RoundsSolved

@@ -1,0 +1,262 @@
+-- A pass over a list of states, turn by turn: each state is placed by the move found for it, and what is placed after
+-- k turns is said of the first k states. Assumes nothing.
+use mathlib.Core.Path.{_≡_, refl, sym, ap, _∙_}
+use mathlib.Core.Logic.{⊎-elim}
+use mathlib.Core.Bool.{Bool, true, false, _&&_, _||_, not}
+use mathlib.Core.List.{List, [], _∷_, _++_, append-nil}
+use Prim.Native.Nat.{ℕ, zero, suc, _+_, _≤_, _<_}
+use native.Mathlib.Nat.{add-zero}
+use native.Mathlib.Numerals.{add-one}
+use native.Mathlib.Omega.{arith}
+use lib.Dec.{ltb, eqb}
+use lib.ListN.{length, getD, take, drop, set, replicate, length-append, length-set, getD-replicate}
+use lib.Seq.{take-suc, take-suc-set, take-all, length-take-le, drop-set-lt, drop-drop, getD-take, getD-drop}
+use lib.Seq.{getD-set-same, getD-set-other, drop-length}
+use borrow.Author.Tests.{le-ltb, ne-eqb}
+use Rattle.statements.specs.Sets.{pick, consIf, numbers, isIn, filter}
+use Rattle.sets.proofs.Tests.{same-number, and-left}
+use Rattle.sets.proofs.Members.{isIn-here, isIn-there, isIn-cases, isIn-none, filter-same, filter-length}
+use Rattle.statements.specs.Books.{lostMark}
+use Rattle.solve.specs.Table.{below}
+use Rattle.solve.specs.Reached.{Marks}
+use Rattle.solve.specs.Reaching.{without, Written, Placed, Swept, Open}
+
+-- a list with one member more at its end
+last-here : (x : ℕ) (xs : List ℕ) → isIn x (xs ++ (x ∷ [])) ≡ true
+last-here x [] = isIn-here x []
+last-here x (z ∷ zs) = isIn-there x z (zs ++ (x ∷ [])) (last-here x zs)
+
+last-other : (y x : ℕ) (xs : List ℕ) → (y ≡ x → ⊥) → isIn y (xs ++ (x ∷ [])) ≡ isIn y xs
+unfolding isIn
+last-other y x [] d = rw (ne-eqb y x d) refl
+last-other y x (z ∷ zs) d = ap (λ (b : Bool). eqb y z || b) (last-other y x zs d)
+
+consIf-append : (b : Bool) (x : ℕ) (xs ys : List ℕ) → consIf b x (xs ++ ys) ≡ consIf b x xs ++ ys
+consIf-append true x xs ys = refl
+consIf-append false x xs ys = refl
+
+filter-last : (f : ℕ → Bool) (xs : List ℕ) (x : ℕ) → filter f (xs ++ (x ∷ [])) ≡ filter f xs ++ consIf (f x) x []
+unfolding filter
+filter-last f [] x = refl
+filter-last f (z ∷ zs) x =
+    ap (consIf (f z) z) (filter-last f zs x) ∙ consIf-append (f z) z (filter f zs) (consIf (f x) x [])
+
+-- what stands at a place of a list is a member
+pub isIn-at : (xs : List ℕ) (k : ℕ) → k < length xs → isIn (getD xs k 0) xs ≡ true
+isIn-at [] k h = absurd (omega arith)
+isIn-at (x ∷ xs) zero h = isIn-here x xs
+isIn-at (x ∷ xs) (suc k) h = isIn-there (getD xs k 0) x xs (isIn-at xs k (omega arith))
+
+-- a member of the first states of a list is one of the list
+pub isIn-take : (k : ℕ) (xs : List ℕ) (x : ℕ) → isIn x (take k xs) ≡ true → isIn x xs ≡ true
+isIn-take zero xs x h = absurd (isIn-none x h)
+isIn-take (suc k) [] x h = h
+isIn-take (suc k) (y ∷ ys) x h =
+    ⊎-elim (λ e. rw e (isIn-here y ys)) (λ m. isIn-there x y ys (isIn-take k ys x m)) (isIn-cases x y (take k ys) h)
+
+-- where the test fails nothing is written
+pick-off : (b : Bool) (u v : ℕ) → pick (b && false) u v ≡ v
+pick-off true u v = refl
+pick-off false u v = refl
+
+-- nothing is written yet
+pub written-none : (test : ℕ → Bool) (value : ℕ → ℕ) (old : List ℕ) → Written [] test value old old
+unfolding isIn
+written-none test value old = record { at = λ x. refl }
+
+-- one state more
+module _ (done : List ℕ) (test : ℕ → Bool) (value : ℕ → ℕ) (old new : List ℕ)
+    (w : Written done test value old new) (x : ℕ) (h : x < length new) where
+  written-here : (b : Bool) → test x ≡ b
+      → getD (pick b (set new x (value x)) new) x 0
+      ≡ pick (isIn x (done ++ (x ∷ [])) && test x) (value x) (getD old x 0)
+  written-here true t = rw (last-here x done, t) (getD-set-same new x (value x) 0 h)
+  written-here false t =
+      w .at x ∙ ap (λ (b : Bool). pick (isIn x done && b) (value x) (getD old x 0)) t
+      ∙ pick-off (isIn x done) (value x) (getD old x 0)
+      ∙ sym (ap (λ (b : Bool). pick (isIn x (done ++ (x ∷ [])) && b) (value x) (getD old x 0)) t
+      ∙ pick-off (isIn x (done ++ (x ∷ []))) (value x) (getD old x 0))
+
+  written-other : (b : Bool) (y : ℕ) → (y ≡ x → ⊥)
+      → getD (pick b (set new x (value x)) new) y 0
+      ≡ pick (isIn y (done ++ (x ∷ [])) && test y) (value y) (getD old y 0)
+  written-other true y d = rw (last-other y x done d) (getD-set-other new x y (value x) 0 d ∙ w .at y)
+  written-other false y d = rw (last-other y x done d) (w .at y)
+
+  pub written-turn : Written (done ++ (x ∷ [])) test value old (pick (test x) (set new x (value x)) new)
+  written-turn = record {
+    at = λ y.
+        ⊎-elim
+        (λ e. rw e (written-here (test x) refl))
+        (λ d. written-other (test x) y d)
+        (same-number y x);
+  }
+
+-- the rest of one state more
+without-last : (test : ℕ → Bool) (done : List ℕ) (x : ℕ)
+    → without test (done ++ (x ∷ [])) ≡ without test done ++ consIf (not (test x)) x []
+unfolding without
+without-last test done x = filter-last (λ y. not (test y)) done x
+
+module _ (done rest : List ℕ) (x left : ℕ) (h : left < length rest) where
+  rest-turn : (zs : List ℕ) (b : Bool) → take left rest ≡ zs
+      → take (pick b left (left + 1)) (pick b rest (set rest left x)) ≡ zs ++ consIf (not b) x []
+  rest-turn zs true e = e ∙ sym (append-nil zs)
+  rest-turn zs false e = rw (add-one, take-suc-set rest left x h, e)
+
+  left-turn : (zs : List ℕ) (b : Bool) → left ≡ length zs → pick b left (left + 1) ≡ length (zs ++ consIf (not b) x [])
+  left-turn zs true e = e ∙ sym (ap length (append-nil zs))
+  left-turn zs false e = rw length-append (omega arith)
+
+-- no turn yet
+pub swept-none : (found : ℕ → ℕ) (none steps : ℕ) (waits listed rest : List ℕ)
+    → Swept [] found none steps waits listed waits listed rest 0
+unfolding without filter
+swept-none found none steps waits listed rest =
+    record {
+      wait-is = written-none (λ x. ltb (found x) none) (λ _. steps) waits;
+      move-is = written-none (λ x. ltb (found x) none) found listed;
+      rest-is = refl;
+      left-is = refl;
+    }
+
+-- a pass over a list of states after k turns
+pub record Turn (todo : List ℕ) (found : ℕ → ℕ) (none steps : ℕ)
+    (waits listed waits' listed' rest' : List ℕ) (left k : ℕ) : Type 0 where
+  pub done : k ≤ length todo
+  pub waits-long : length waits' ≡ length waits
+  pub listed-long : length listed' ≡ length listed
+  pub swept : Swept (take k todo) found none steps waits listed waits' listed' rest' left
+
+-- where a pass begins
+pub turn-start : (todo : List ℕ) (found : ℕ → ℕ) (none steps : ℕ) (waits listed rest : List ℕ)
+    → Turn todo found none steps waits listed waits listed rest 0 0
+turn-start todo found none steps waits listed rest =
+    record {
+      done = omega arith;
+      waits-long = refl;
+      listed-long = refl;
+      swept = swept-none found none steps waits listed rest;
+    }
+
+-- a write keeps the length
+pick-length : (b : Bool) (xs : List ℕ) (i v : ℕ) → length (pick b (set xs i v) xs) ≡ length xs
+pick-length true xs i v = length-set xs i v
+pick-length false xs i v = refl
+
+module _ {todo : List ℕ} {found : ℕ → ℕ} {none steps : ℕ}
+    {waits listed waits' listed' rest' : List ℕ} {left k : ℕ}
+    (t : Turn todo found none steps waits listed waits' listed' rest' left k) where
+  -- no more are left than were passed
+  pub turn-few : left ≤ k
+  unfolding without
+  turn-few =
+      let few = filter-length (λ x. not (ltb (found x) none)) (take k todo) in
+      omega (arith, t .swept .left-is, length-take-le k todo (t .done))
+
+  -- the places of a turn are within the arrays
+  pub turn-room : {x s : ℕ} → k < length todo → x < s → s ≤ length waits → s ≤ length listed
+      → length todo ≤ length rest' → (x < length waits') × (x < length listed') × (left < length rest')
+  turn-room l h w m r =
+      let few = turn-few in
+      (omega (arith, t .waits-long), omega (arith, t .listed-long), omega arith)
+
+  -- one turn: the state at k is placed by the move found for it
+  pub turn-again : {x f : ℕ} {waits'' listed'' rest'' : List ℕ} {left'' : ℕ} → k < length todo → x ≡ getD todo k 0
+      → f ≡ found x → (x < length waits') × (x < length listed') × (left < length rest')
+      → Placed f none x steps left waits' listed' rest' waits'' listed'' rest'' left''
+      → Turn todo found none steps waits listed waits'' listed'' rest'' left'' (k + 1)
+  turn-again {x} {f} {waits''} {listed''} {rest''} {left''} l ex ef room p =
+      let test : ℕ → Bool = λ y. ltb (found y) none in
+      let more : take (k + 1) todo ≡ take k todo ++ (x ∷ []) = rw (add-one, take-suc todo k 0 l, ex) in
+      let b : ltb f none ≡ test x = ap (λ (n : ℕ). ltb n none) ef in
+      let w : waits'' ≡ pick (test x) (set waits' x steps) waits' = rw b at (p .wait-is) in
+      let m : listed'' ≡ pick (test x) (set listed' x (found x)) listed' = rw ef at (p .move-is) in
+      let r : rest'' ≡ pick (test x) rest' (set rest' left x) = rw b at (p .rest-is) in
+      let n : left'' ≡ pick (test x) left (left + 1) = rw b at (p .left-is) in
+      record {
+        done = omega arith;
+        waits-long = ap length w ∙ pick-length (test x) waits' x steps ∙ t .waits-long;
+        listed-long = ap length m ∙ pick-length (test x) listed' x (found x) ∙ t .listed-long;
+        swept = record {
+          wait-is =
+              rw (more, w) (written-turn (take k todo) test (λ _. steps) waits waits' (t .swept .wait-is) x (room .0));
+          move-is =
+              rw (more, m) (written-turn (take k todo) test found listed listed' (t .swept .move-is) x (room .1));
+          rest-is =
+              rw (more, n, r)
+              (rest-turn todo rest' x left (room .2) (without test (take k todo)) (test x) (t .swept .rest-is)
+              ∙ sym (without-last test (take k todo) x));
+          left-is =
+              rw (more, n)
+              (left-turn todo rest' x left (room .2) (without test (take k todo)) (test x) (t .swept .left-is)
+              ∙ sym (ap length (without-last test (take k todo) x)));
+        };
+      }
+
+  -- all are passed
+  pub turn-end : length todo ≤ k → Swept todo found none steps waits listed waits' listed' rest' left
+  turn-end h = rw (take-all k todo h) at (t .swept)
+
+  -- the states with waits below the step stay the same
+  pub turn-below : {s : ℕ} → Open todo s steps waits → below waits' steps s ≡ below waits steps s
+  unfolding below
+  turn-below {s} o =
+      filter-same (λ x. ltb (getD waits' x 0) steps) (λ x. ltb (getD waits x 0) steps) (numbers s 0)
+      (λ x m. rw (t .swept .wait-is .at x) (same x (isIn x (take k todo) && ltb (found x) none) refl))
+    where
+      same : (x : ℕ) (b : Bool) → (isIn x (take k todo) && ltb (found x) none) ≡ b
+          → ltb (pick b steps (getD waits x 0)) steps ≡ ltb (getD waits x 0) steps
+      same x true e =
+          let m = isIn-take k todo x (and-left (isIn x (take k todo)) (ltb (found x) none) e) in
+          le-ltb steps steps (omega arith) ∙ sym (le-ltb (getD waits x 0) steps (o .wait x m))
+      same x false e = refl
+
+-- the list that is passed shares the array of the rest: from k on it is as it was
+module _ {found none x steps left : ℕ} {waits listed rest waits' listed' rest' : List ℕ} {left' : ℕ}
+    (p : Placed found none x steps left waits listed rest waits' listed' rest' left') where
+  pub rest-stays : (k : ℕ) (old : List ℕ) → left ≤ k → drop k rest ≡ drop k old → drop (k + 1) rest' ≡ drop (k + 1) old
+  rest-stays k old h e =
+      ap (drop (k + 1)) (p .rest-is) ∙ after (ltb found none)
+      ∙ sym (drop-drop 1 k rest) ∙ ap (drop 1) e ∙ drop-drop 1 k old
+    where
+      after : (b : Bool) → drop (k + 1) (pick b rest (set rest left x)) ≡ drop (k + 1) rest
+      after true = refl
+      after false = drop-set-lt (k + 1) rest left x (omega arith)
+
+  -- it is as long as it was
+  pub rest-length : length rest' ≡ length rest
+  rest-length = ap length (p .rest-is) ∙ same (ltb found none)
+    where
+      same : (b : Bool) → length (pick b rest (set rest left x)) ≡ length rest
+      same true = refl
+      same false = length-set rest left x
+
+-- what is read at k is the state of the list
+pub rest-at : (k count : ℕ) (rest rest' : List ℕ) → k < count → drop k rest' ≡ drop k rest
+    → getD rest' k 0 ≡ getD (take count rest) k 0
+rest-at k count rest rest' h e =
+    ap (λ (n : ℕ). getD rest' n 0) (sym (add-zero k)) ∙ sym (getD-drop k rest' 0 0) ∙ ap (λ (l : List ℕ). getD l 0 0) e
+    ∙ getD-drop k rest 0 0 ∙ ap (λ (n : ℕ). getD rest n 0) (add-zero k) ∙ sym (getD-take count rest k 0 h)
+
+-- an array that is filled up to its end
+pub filled : (k v : ℕ) (xs ys : List ℕ) → xs ≡ replicate k v ++ drop k ys → k ≤ length ys → length ys ≤ k
+    → xs ≡ replicate (length ys) v
+filled k v xs ys e l h =
+    let q : k ≡ length ys = omega arith in
+    e ∙ rw (q, drop-length ys, append-nil)
+
+-- one more state of a set is marked, and all are
+pub mark-turn : (all old new : List ℕ) (k : ℕ) → Written (take k all) (λ _. true) (λ _. 0) old new → k < length all
+    → getD all k 0 < length new → Written (take (k + 1) all) (λ _. true) (λ _. 0) old (set new (getD all k 0) 0)
+mark-turn all old new k w l h =
+    rw (add-one, take-suc all k 0 l) (written-turn (take k all) (λ _. true) (λ _. 0) old new w (getD all k 0) h)
+
+pub mark-end : (all old new : List ℕ) (k : ℕ) → Written (take k all) (λ _. true) (λ _. 0) old new → length all ≤ k
+    → old ≡ replicate 1024 lostMark → Marks all new
+mark-end all old new k w l e =
+    let v = rw (take-all k all l, e) at w in
+    record {
+      inside = λ x h m. v .at x ∙ rw m;
+      outside = λ x h m. v .at x ∙ rw (m, getD-replicate 1024 x lostMark 0 h);
+    }

@@ -1,0 +1,41 @@
+-- What the reach to a goal within a set leaves in its arrays: for each state the step in which it was reached and the
+-- lowest move into what was reached before, or the mark in both.
+use mathlib.Core.Path.{_≡_}
+use mathlib.Core.Bool.{true, false}
+use mathlib.Core.List.{List}
+use Prim.Native.Nat.{ℕ, zero, suc, _<_}
+use lib.ListN.{length, getD}
+use Rattle.statements.specs.Sets.{pick, first, iterate, isIn}
+use Rattle.statements.specs.Plants.{Plant, moveInto}
+use Rattle.statements.specs.Kept.{grown, target, forced}
+use Rattle.statements.specs.Books.{lostMark}
+
+-- the states reached within n steps
+unfoldable pub within : Plant → ℕ → List ℕ → ℕ → ℕ → List ℕ
+within p mask all i n = iterate n (grown p mask all) (target p mask all i)
+
+-- where a move of the n-th step ends: in what was reached before, at step 0 in the set
+unfoldable pub before : Plant → ℕ → List ℕ → ℕ → ℕ → List ℕ
+before p mask all i zero = all
+before p mask all i (suc n) = within p mask all i n
+
+-- the step in which a state is reached
+unfoldable pub stepOf : Plant → ℕ → List ℕ → ℕ → ℕ → ℕ
+stepOf p mask all i x = first (length all) 0 (λ n. isIn x (within p mask all i n))
+
+unfoldable pub reached : Plant → ℕ → List ℕ → ℕ → ℕ → ℕ
+reached p mask all i x = pick (isIn x (forced p mask all i)) (stepOf p mask all i x) lostMark
+
+unfoldable pub reachedBy : Plant → ℕ → List ℕ → ℕ → ℕ → ℕ
+reachedBy p mask all i x =
+    pick (isIn x (forced p mask all i)) (moveInto p mask (before p mask all i (stepOf p mask all i x)) x) lostMark
+
+-- the arrays hold the reach to goal i
+pub record Column (p : Plant) (mask : ℕ) (all : List ℕ) (i : ℕ) (waits listed : List ℕ) : Type 0 where
+  pub wait-is : (x : ℕ) → x < p .states → getD waits x 0 ≡ reached p mask all i x
+  pub move-is : (x : ℕ) → x < p .states → getD listed x 0 ≡ reachedBy p mask all i x
+
+-- an array of 1,024 marks: 0 for the states of a set, the mark for all others
+pub record Marks (all member : List ℕ) : Type 0 where
+  pub inside : (x : ℕ) → x < 1024 → isIn x all ≡ true → getD member x 0 ≡ 0
+  pub outside : (x : ℕ) → x < 1024 → isIn x all ≡ false → getD member x 0 ≡ lostMark

@@ -1,0 +1,52 @@
+-- The rows of a book as numbers, and what the solver answers.
+use mathlib.Core.Path.{_≡_}
+use mathlib.Core.Bool.{Bool, true, false, _&&_}
+use mathlib.Core.List.{List, [], _∷_, _++_}
+use Prim.Native.Nat.{ℕ, suc, _+_, _*_, _<_}
+use lib.Dec.{eqb, leb}
+use lib.ListN.{length, getD, drop}
+use Rattle.statements.specs.Sets.{pick, joined, iterate, isIn}
+use Rattle.statements.specs.Plants.{Plant, plantOf, plantFault}
+use Rattle.statements.specs.Kept.{forcedAll, keptWithin, waitOf, listedMove}
+use Rattle.statements.specs.Books.{lostMark}
+use Rattle.solve.specs.Reached.{reached, reachedBy}
+
+-- the entries hold the reach to each of the first n goals: wait, then move, by state and goal
+pub record Columns (p : Plant) (mask : ℕ) (all : List ℕ) (n : ℕ) (entries : List ℕ) : Type 0 where
+  pub wait-is : (x i : ℕ) → x < p .states → i < n → getD entries (2 * (x * p .goals + i)) 0 ≡ reached p mask all i x
+  pub move-is : (x i : ℕ) → x < p .states → i < n → getD entries (2 * (x * p .goals + i) + 1) 0 ≡ reachedBy p mask all i x
+
+-- the states kept when the rounds begin with a set
+unfoldable pub keptFrom : Plant → ℕ → List ℕ → List ℕ
+keptFrom p mask start = iterate (p .states) (forcedAll (p .goals) p mask) start
+
+-- an entry's two numbers, and the rows of a book
+unfoldable pub entryNumbers : Plant → ℕ → List ℕ → ℕ → ℕ → List ℕ
+entryNumbers p mask kept x i =
+    pick (isIn x kept) (waitOf p mask kept i x ∷ (listedMove p mask kept i x ∷ [])) (lostMark ∷ (lostMark ∷ []))
+
+unfoldable pub rowNumbers : Plant → ℕ → List ℕ → List ℕ
+rowNumbers p mask kept = joined (p .states) 0 (λ x. joined (p .goals) 0 (entryNumbers p mask kept x))
+
+-- the rows written over the first entries
+abbrev pub writtenRows : Plant → ℕ → List ℕ → List ℕ → List ℕ
+writtenRows p mask kept entries = let rows = rowNumbers p mask kept in rows ++ drop (length rows) entries
+
+-- a plant that is accepted, a flag for each state and room for the rows
+unfoldable pub solvable : List ℕ → List ℕ → List ℕ → Bool
+solvable s start entries =
+    eqb (plantFault s) 0 && (leb (plantOf s .states) (length start) && leb (2 * (plantOf s .states * plantOf s .goals)) (length entries))
+
+-- the states with flag 1 are the start
+unfoldable pub flagged : List ℕ → ℕ → Bool
+flagged start x = eqb (getD start x 0) 1
+
+-- the number kept, and the entries with the rows written; 0 and nothing where the solver cannot work
+unfoldable pub solvedCount : List ℕ → ℕ → List ℕ → List ℕ → ℕ
+solvedCount s mask start entries =
+    pick (solvable s start entries) (length (keptWithin (plantOf s) mask (flagged start))) 0
+
+unfoldable pub solvedRows : List ℕ → ℕ → List ℕ → List ℕ → List ℕ
+solvedRows s mask start entries =
+    pick (solvable s start entries) (writtenRows (plantOf s) mask (keptWithin (plantOf s) mask (flagged start)) entries)
+    entries
