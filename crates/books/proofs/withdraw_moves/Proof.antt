@@ -127,7 +127,8 @@ returns-2 c =
       withdraw-done (now (a .plant)) (now (a .book)) (a .mask) (now (a .out)) (now (a .drops)) _ _ _ _ (accepted e)
           (kept-flags (plantOf (now (a .plant))) (now (a .book)) _ _ (ok e .states) (l .allowed .ensures .0)
           (t .kept .ensures .0))
-          (m .mask .ensures) (k .book .ensures .0) (k .book .ensures .1) (d .dropped .ensures .0) (d .dropped .ensures .1),
+          (m .mask .ensures) (k .book .ensures .0) (k .book .ensures .1)
+          (d .dropped .ensures .0) (d .dropped .ensures .1),
       demands,
     )
 

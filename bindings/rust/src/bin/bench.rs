@@ -1,0 +1,148 @@
+//! How long the calls take: the proved library (with the feature `linked`), the plain solver and the worklist solver,
+//! in one run on the same plants.
+//!
+//! A time is the least CPU time of several runs, in microseconds; buffers are reused and not cleared between runs.
+//! `make` is with all moves in service, `withdraw` takes the highest move out of that book, and `remake` makes the same
+//! book afresh. `consult` is the mean over all states and goals. K is how many states the book keeps that is written or
+//! consulted. A ratio above 1 says how many times as long the other solver takes as the first column does.
+
+use std::hint::black_box;
+
+use planbook::calls::Calls;
+use planbook::plants::{Family, Model, FAMILIES};
+use planbook::second::{Fast, Plain};
+
+const SIZES: [u16; 5] = [64, 128, 256, 512, 1024];
+const CALLS: [&str; 4] = ["make", "withdraw", "remake", "consult"];
+const SEED: u64 = 1;
+
+/// Runs of one call go on until they took so long in all, in nanoseconds, but are at least three.
+const ENOUGH: u64 = 30_000_000;
+
+fn main() {
+    #[cfg(feature = "linked")]
+    let planners: Vec<&dyn Calls> = vec![&planbook::calls::Linked, &Plain, &Fast];
+    #[cfg(not(feature = "linked"))]
+    let planners: Vec<&dyn Calls> = vec![&Plain, &Fast];
+
+    print_heading(&planners);
+    for family in FAMILIES {
+        let mut sizes: Vec<Vec<Figures>> = Vec::new();
+        for states in SIZES {
+            eprintln!("{} with {states} states", family.name());
+            let model = family.build(states, SEED);
+            sizes.push(planners.iter().map(|planner| measure(*planner, &model)).collect());
+            print_times(family, &model, &sizes[sizes.len() - 1]);
+        }
+        print_growth(family, &sizes[0], &sizes[sizes.len() - 1]);
+    }
+}
+
+/// What is found out of a planner on a plant, call by call.
+struct Figures {
+    /// Nanoseconds.
+    times: [f64; CALLS.len()],
+    /// How many states are kept in the book that is written or consulted.
+    kept: [u16; CALLS.len()],
+}
+
+fn measure(planner: &dyn Calls, model: &Model) -> Figures {
+    let plant = model.bytes();
+    let (states, goals) = (model.labels.len(), usize::from(model.goals));
+    let length = 16 + 4 * states * goals;
+    let [mut book, mut out] = [(); 2].map(|()| vec![0; length]);
+    let mut drops = vec![0; 2 * states];
+    let [every_move, highest] = [model.every_move(), model.highest_move()];
+
+    let make = least(|| accepted(planner.make(&plant, every_move, &mut book).number));
+    let withdraw = least(|| accepted(planner.withdraw(&plant, &book, highest, &mut out, &mut drops).number));
+    let remake = least(|| accepted(planner.make(&plant, every_move & !highest, &mut out).number));
+    let consult = least(|| {
+        for state in 0..states as u32 {
+            for goal in 0..goals as u32 {
+                accepted(black_box(planner.consult(&book, state, goal)).number);
+            }
+        }
+    });
+    let [before, after] = [&book, &out].map(|book| number(book, 6));
+    Figures { times: [make, withdraw, remake, consult / (states * goals) as f64], kept: [before, after, after, before] }
+}
+
+fn accepted(number: u32) {
+    assert_eq!(number, 0, "the calls that are measured are accepted");
+}
+
+/// The two-byte number at a place.
+fn number(bytes: &[u8], at: usize) -> u16 {
+    u16::from_le_bytes([bytes[at], bytes[at + 1]])
+}
+
+/// The least CPU time of several runs, in nanoseconds.
+fn least(mut run: impl FnMut()) -> f64 {
+    let mut least = u64::MAX;
+    let (mut runs, mut total) = (0, 0);
+    while runs < 3 || total < ENOUGH {
+        let start = cpu_time();
+        run();
+        let time = cpu_time() - start;
+        least = least.min(time);
+        total += time;
+        runs += 1;
+    }
+    least as f64
+}
+
+/// The CPU time of this thread, in nanoseconds.
+fn cpu_time() -> u64 {
+    #[repr(C)]
+    struct TimeSpec {
+        seconds: i64,
+        nanoseconds: i64,
+    }
+    extern "C" {
+        fn clock_gettime(clock: i32, time: *mut TimeSpec) -> i32;
+    }
+    const THREAD_CPU_TIME: i32 = 3;
+    let mut time = TimeSpec { seconds: 0, nanoseconds: 0 };
+    // SAFETY: libc's clock_gettime fills the struct, which has its layout on 64-bit Linux.
+    let failed = unsafe { clock_gettime(THREAD_CPU_TIME, &mut time) };
+    assert_eq!(failed, 0, "the thread's clock can be read");
+    (time.seconds * 1_000_000_000 + time.nanoseconds) as u64
+}
+
+fn print_heading(planners: &[&dyn Calls]) {
+    print!("{:<12}{:>6}{:>6}  {:<9}{:>6}", "family", "S", "E", "call", "K");
+    for planner in planners {
+        print!("{:>13}", format!("{} µs", planner.name()));
+    }
+    for planner in &planners[1..] {
+        print!("{:>13}", format!("{} ratio", planner.name()));
+    }
+    println!();
+}
+
+fn print_times(family: Family, model: &Model, figures: &[Figures]) {
+    let arrows = number(&model.bytes(), 6);
+    for (call, name) in CALLS.iter().enumerate() {
+        let kept = figures[0].kept[call];
+        print!("{:<12}{:>6}{arrows:>6}  {name:<9}{kept:>6}", family.name(), model.labels.len());
+        for figures in figures {
+            print!("{:>13.2}", figures.times[call] / 1000.0);
+        }
+        for other in &figures[1..] {
+            print!("{:>13.2}", other.times[call] / figures[0].times[call]);
+        }
+        println!();
+    }
+}
+
+/// How many times as long each call takes with the most states as with the fewest.
+fn print_growth(family: Family, fewest: &[Figures], most: &[Figures]) {
+    for (call, name) in CALLS.iter().enumerate() {
+        print!("{:<12}{:>12}  {name:<9}{:>6}", family.name(), "growth", "");
+        for (fewest, most) in fewest.iter().zip(most) {
+            print!("{:>13.1}", most.times[call] / fewest.times[call]);
+        }
+        println!();
+    }
+}

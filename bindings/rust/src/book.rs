@@ -1,0 +1,258 @@
+//! The safe wrapper: the four calls over slices, and a book that owns its bytes.
+
+use std::sync::Arc;
+
+use crate::calls::{Calls, Linked};
+use crate::Refusal;
+
+/// The longest book: 16 + 4SN bytes for S 1,024 and N 8.
+const LONGEST_BOOK: usize = 16 + 4 * 1024 * 8;
+
+/// The most bytes of a list of dropped states: 2S for S 1,024.
+const LONGEST_LIST: usize = 2 * 1024;
+
+/// Both places of an entry of a lost state.
+const LOST: u16 = u16::MAX;
+
+/// What a book says for a state and a goal.
+#[derive(Clone, Copy, Debug, PartialEq, Eq, Hash)]
+pub enum Advice {
+    /// The state is lost.
+    Lost,
+    /// The state is kept.
+    Move {
+        /// The move to make.
+        action: u16,
+        /// At most so many moves until the goal asked for is met; 0 if the state is in it.
+        wait: u16,
+        /// The goal to ask for after the move: the same one, or at wait 0 the next one.
+        seek: u16,
+    },
+}
+
+/// What an accepted withdrawal wrote.
+#[derive(Clone, Copy, Debug, PartialEq, Eq)]
+pub struct Withdrawn {
+    /// How many bytes of the book buffer are the new book.
+    pub length: usize,
+    /// How many two-byte numbers of the drop buffer are the states dropped.
+    pub drops: usize,
+}
+
+/// An entry of a kept state's row.
+#[derive(Clone, Copy, Debug, PartialEq, Eq, Hash)]
+pub struct Entry {
+    /// The least number of moves that forces the goal; 0 if the state is in it.
+    pub wait: u16,
+    /// The move to make.
+    pub action: u16,
+}
+
+fn accepted(number: u32) -> Result<(), Refusal> {
+    match number {
+        0 => Ok(()),
+        _ => Err(Refusal::from_number(number)),
+    }
+}
+
+/// Writes the book of `plant` with the moves of `mask` in service to the start of `book`, and answers its length. A
+/// refused call writes nothing.
+///
+/// ```
+/// let plant = planbook::plants::strip().bytes();
+/// let mut book = [0; 48];
+/// assert_eq!(planbook::make_into(&plant, 0b111, &mut book), Ok(48));
+/// assert_eq!(planbook::make_into(&plant, 0b111, &mut book[..47]), Err(planbook::Refusal::Buffer));
+/// ```
+pub fn make_into(plant: &[u8], mask: u32, book: &mut [u8]) -> Result<usize, Refusal> {
+    let answer = Linked.make(plant, mask, book);
+    accepted(answer.number)?;
+    Ok(answer.length as usize)
+}
+
+/// Writes `book` without the moves of `mask` to the start of `out`, and the states that this drops to the start of
+/// `drops`, as little-endian two-byte numbers in no particular order. A refused call writes nothing.
+///
+/// ```
+/// let plant = planbook::plants::strip().bytes();
+/// let (mut book, mut out, mut drops) = ([0; 48], [0; 48], [0; 8]);
+/// planbook::make_into(&plant, 0b111, &mut book)?;
+/// let written = planbook::withdraw_into(&plant, &book, 0b001, &mut out, &mut drops)?;
+/// assert_eq!((written.length, written.drops), (48, 3));
+/// # Ok::<(), planbook::Refusal>(())
+/// ```
+pub fn withdraw_into(
+    plant: &[u8],
+    book: &[u8],
+    mask: u32,
+    out: &mut [u8],
+    drops: &mut [u8],
+) -> Result<Withdrawn, Refusal> {
+    let answer = Linked.withdraw(plant, book, mask, out, drops);
+    accepted(answer.number)?;
+    Ok(Withdrawn { length: answer.length as usize, drops: answer.drops as usize })
+}
+
+/// What the book says for a state and the goal sought.
+///
+/// ```
+/// use planbook::Advice;
+///
+/// let plant = planbook::plants::strip().bytes();
+/// let mut book = [0; 48];
+/// planbook::make_into(&plant, 0b111, &mut book)?;
+/// assert_eq!(planbook::consult(&book, 2, 1)?, Advice::Move { action: 0, wait: 0, seek: 0 });
+/// assert_eq!(planbook::consult(&book, 3, 1)?, Advice::Lost);
+/// # Ok::<(), planbook::Refusal>(())
+/// ```
+pub fn consult(book: &[u8], state: u32, goal: u32) -> Result<Advice, Refusal> {
+    let advice = Linked.consult(book, state, goal);
+    accepted(advice.number)?;
+    match advice.lost {
+        0 => Ok(Advice::Move { action: advice.action as u16, wait: advice.wait as u16, seek: advice.seek as u16 }),
+        _ => Ok(Advice::Lost),
+    }
+}
+
+/// The state's row, as the part of the book lent: for each goal the wait and the move, as two-byte numbers.
+///
+/// ```
+/// let plant = planbook::plants::strip().bytes();
+/// let mut book = [0; 48];
+/// planbook::make_into(&plant, 0b111, &mut book)?;
+/// assert_eq!(planbook::row(&book, 1)?, [1, 0, 2, 0, 1, 0, 0, 0]);
+/// assert_eq!(planbook::row(&book, 4), Err(planbook::Refusal::OutOfBook));
+/// # Ok::<(), planbook::Refusal>(())
+/// ```
+pub fn row(book: &[u8], state: u32) -> Result<&[u8], Refusal> {
+    let part = Linked.row(book, state);
+    accepted(part.number)?;
+    let start = part.start as usize;
+    Ok(&book[start..start + part.length as usize])
+}
+
+/// A book that was made, or withdrawn from, for a plant; it holds its own bytes and the plant's, which all books that
+/// come of it share.
+///
+/// ```
+/// use planbook::Book;
+///
+/// let plant = planbook::plants::strip().bytes();
+/// let book = Book::make(&plant, 0b111)?;
+/// assert_eq!((book.states(), book.moves(), book.goals(), book.mask()), (4, 3, 2, 0b111));
+///
+/// let waits: Vec<_> = book.rows().map(|row| row.map(|entries| entries.map(|entry| entry.wait).collect())).collect();
+/// assert_eq!(waits, [Some(vec![0, 2]), Some(vec![1, 1]), Some(vec![1, 0]), None]);
+///
+/// let (rest, dropped) = book.withdraw(0b001)?;
+/// assert_eq!(rest.kept_count(), 0);
+/// assert_eq!(dropped, [0, 1, 2]);
+/// # Ok::<(), planbook::Refusal>(())
+/// ```
+#[derive(Clone, Debug, PartialEq, Eq)]
+pub struct Book {
+    plant: Arc<[u8]>,
+    bytes: Vec<u8>,
+}
+
+impl Book {
+    /// The book of a plant with the moves of `mask` in service (bit u is move u).
+    pub fn make(plant: &[u8], mask: u32) -> Result<Book, Refusal> {
+        let mut bytes = vec![0; LONGEST_BOOK];
+        let length = make_into(plant, mask, &mut bytes)?;
+        bytes.truncate(length);
+        Ok(Book { plant: plant.into(), bytes })
+    }
+
+    /// A book from bytes that were kept elsewhere, if the library accepts them as a book for the plant. Whether they are
+    /// those that make or withdraw would write is not looked at.
+    ///
+    /// ```
+    /// use planbook::{Book, Refusal};
+    ///
+    /// let plant = planbook::plants::strip().bytes();
+    /// let book = Book::make(&plant, 0b111)?;
+    /// assert_eq!(Book::from_bytes(&plant, book.bytes())?, book);
+    /// assert_eq!(Book::from_bytes(&plant, &book.bytes()[1..]), Err(Refusal::BookHeader));
+    /// # Ok::<(), Refusal>(())
+    /// ```
+    pub fn from_bytes(plant: &[u8], bytes: &[u8]) -> Result<Book, Refusal> {
+        // To withdraw nothing checks all that there is to check.
+        withdraw_into(plant, bytes, 0, &mut vec![0; LONGEST_BOOK], &mut [0; LONGEST_LIST])?;
+        Ok(Book { plant: plant.into(), bytes: bytes.into() })
+    }
+
+    /// The book without the moves of `mask`, and the states kept in this book and lost in that one, in rising order.
+    /// Naming a move that is already out of service has no effect.
+    pub fn withdraw(&self, mask: u32) -> Result<(Book, Vec<u16>), Refusal> {
+        let mut bytes = vec![0; self.bytes.len()];
+        let mut list = [0; LONGEST_LIST];
+        let written = withdraw_into(&self.plant, &self.bytes, mask, &mut bytes, &mut list)?;
+        bytes.truncate(written.length);
+        let mut dropped: Vec<u16> = numbers(&list[..2 * written.drops]).collect();
+        dropped.sort_unstable();
+        Ok((Book { plant: self.plant.clone(), bytes }, dropped))
+    }
+
+    /// What the book says for a state and the goal sought.
+    pub fn consult(&self, state: u16, goal: u16) -> Result<Advice, Refusal> {
+        consult(&self.bytes, state.into(), goal.into())
+    }
+
+    /// The state's row, a part of [`Book::bytes`].
+    pub fn row(&self, state: u16) -> Result<&[u8], Refusal> {
+        row(&self.bytes, state.into())
+    }
+
+    /// The rows of the states in rising order: a kept state's entries, one for each goal, or `None` for a lost state.
+    pub fn rows(&self) -> impl Iterator<Item = Option<impl Iterator<Item = Entry> + '_>> + '_ {
+        self.bytes[16..].chunks_exact(4 * usize::from(self.goals())).map(|row| {
+            let entry = |pair: &[u8]| Entry { wait: number(pair, 0), action: number(pair, 2) };
+            (number(row, 0) != LOST).then(|| row.chunks_exact(4).map(entry))
+        })
+    }
+
+    /// How many states there are.
+    pub fn states(&self) -> u16 {
+        number(&self.bytes, 0)
+    }
+
+    /// How many moves the plant has, in service or not.
+    pub fn moves(&self) -> u16 {
+        number(&self.bytes, 2)
+    }
+
+    /// How many goals there are.
+    pub fn goals(&self) -> u16 {
+        number(&self.bytes, 4)
+    }
+
+    /// How many states are kept.
+    pub fn kept_count(&self) -> u16 {
+        number(&self.bytes, 6)
+    }
+
+    /// The moves in service: bit u is move u.
+    pub fn mask(&self) -> u32 {
+        u32::from(number(&self.bytes, 8)) | u32::from(number(&self.bytes, 10)) << 16
+    }
+
+    /// The book's bytes.
+    pub fn bytes(&self) -> &[u8] {
+        &self.bytes
+    }
+
+    /// The bytes of the plant that the book is for.
+    pub fn plant(&self) -> &[u8] {
+        &self.plant
+    }
+}
+
+/// The two-byte number at a place.
+fn number(bytes: &[u8], at: usize) -> u16 {
+    u16::from_le_bytes([bytes[at], bytes[at + 1]])
+}
+
+fn numbers(bytes: &[u8]) -> impl Iterator<Item = u16> + '_ {
+    (0..bytes.len() / 2).map(|at| number(bytes, 2 * at))
+}

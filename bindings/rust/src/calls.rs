@@ -1,0 +1,67 @@
+//! The four calls over slices, with the C interface's answers: one trait that the proved library and each second
+//! solver implement, so that tests and benchmarks treat them alike.
+
+use crate::sys::{Advice, Answer, Part};
+
+/// A planner: make, withdraw, consult and row as document 01 has them, on raw bytes.
+pub trait Calls {
+    /// A short name for tables and messages.
+    fn name(&self) -> &'static str;
+
+    /// Writes the plant's book with the moves of `mask` in service to the start of `book`.
+    fn make(&self, plant: &[u8], mask: u32, book: &mut [u8]) -> Answer;
+
+    /// Writes the book without the moves of `mask` to the start of `out`, and to the start of `drops` the states kept
+    /// in `book` and lost now, as two-byte numbers.
+    fn withdraw(&self, plant: &[u8], book: &[u8], mask: u32, out: &mut [u8], drops: &mut [u8]) -> Answer;
+
+    /// What the book says for a state and the goal sought.
+    fn consult(&self, book: &[u8], state: u32, goal: u32) -> Advice;
+
+    /// Where the state's row stands in the book.
+    fn row(&self, book: &[u8], state: u32) -> Part;
+}
+
+/// The proved library.
+#[cfg(feature = "linked")]
+#[derive(Clone, Copy, Debug)]
+pub struct Linked;
+
+#[cfg(feature = "linked")]
+impl Calls for Linked {
+    fn name(&self) -> &'static str {
+        "planbook"
+    }
+
+    fn make(&self, plant: &[u8], mask: u32, book: &mut [u8]) -> Answer {
+        // SAFETY: each pointer and length is a slice's own, and `book` is borrowed alone.
+        unsafe { crate::sys::planbook_make(plant.as_ptr(), plant.len(), mask, book.as_mut_ptr(), book.len()) }
+    }
+
+    fn withdraw(&self, plant: &[u8], book: &[u8], mask: u32, out: &mut [u8], drops: &mut [u8]) -> Answer {
+        // SAFETY: each pointer and length is a slice's own, and `out` and `drops` are each borrowed alone.
+        unsafe {
+            crate::sys::planbook_withdraw(
+                plant.as_ptr(),
+                plant.len(),
+                book.as_ptr(),
+                book.len(),
+                mask,
+                out.as_mut_ptr(),
+                out.len(),
+                drops.as_mut_ptr(),
+                drops.len(),
+            )
+        }
+    }
+
+    fn consult(&self, book: &[u8], state: u32, goal: u32) -> Advice {
+        // SAFETY: the pointer and the length are the slice's own.
+        unsafe { crate::sys::planbook_consult(book.as_ptr(), book.len(), state, goal) }
+    }
+
+    fn row(&self, book: &[u8], state: u32) -> Part {
+        // SAFETY: the pointer and the length are the slice's own.
+        unsafe { crate::sys::planbook_row(book.as_ptr(), book.len(), state) }
+    }
+}

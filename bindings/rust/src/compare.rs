@@ -1,0 +1,187 @@
+//! One planner held against another: the same call on the same bytes, and then the same answer, the same bytes in every
+//! buffer, nothing written beside them and nothing changed in what was only lent to read.
+//!
+//! A difference is a panic whose message has the call's input in hex. Places in a buffer are told with the watched bytes
+//! before it counted.
+
+use std::fmt::Debug;
+
+use crate::calls::Calls;
+use crate::sys::{Advice, Answer, Part};
+
+pub mod rounds;
+
+/// How many bytes are watched on each side of a buffer.
+const GUARD: usize = 24;
+
+/// Compares `ours` with `second`, and counts the calls compared.
+pub struct Comparison<'a> {
+    ours: &'a dyn Calls,
+    second: &'a dyn Calls,
+    calls: u64,
+    refused: u64,
+    /// Books written that keep some states and lose others.
+    mixed: u64,
+    /// Withdrawals that drop some states and keep others.
+    partial: u64,
+}
+
+/// A buffer with watched bytes on each side, filled with a pattern.
+struct Buffer {
+    bytes: Vec<u8>,
+    length: usize,
+}
+
+impl Buffer {
+    /// The pattern depends on the place and on `seed` and is never long the same.
+    fn new(length: usize, seed: u64) -> Buffer {
+        let pattern = |at: usize| (at as u64).wrapping_mul(0x9e37_79b9).wrapping_add(seed.wrapping_mul(0x85)) >> 5;
+        Buffer { bytes: (0..length + 2 * GUARD).map(|at| pattern(at) as u8).collect(), length }
+    }
+
+    fn lent(&mut self) -> &mut [u8] {
+        &mut self.bytes[GUARD..GUARD + self.length]
+    }
+
+    /// The first so many bytes of the buffer, put in order as two-byte numbers.
+    fn sort_numbers(&mut self, length: usize) {
+        let part = &mut self.lent()[..length];
+        let mut numbers: Vec<[u8; 2]> = part.chunks_exact(2).map(|pair| [pair[0], pair[1]]).collect();
+        numbers.sort_unstable_by_key(|&pair| u16::from_le_bytes(pair));
+        part.copy_from_slice(&numbers.concat());
+    }
+}
+
+impl<'a> Comparison<'a> {
+    /// Compares two planners.
+    pub fn new(ours: &'a dyn Calls, second: &'a dyn Calls) -> Comparison<'a> {
+        Comparison { ours, second, calls: 0, refused: 0, mixed: 0, partial: 0 }
+    }
+
+    /// How many calls were compared.
+    pub fn calls(&self) -> u64 {
+        self.calls
+    }
+
+    /// What was compared so far, in words.
+    pub fn summary(&self) -> String {
+        let [ours, second] = [self.ours, self.second].map(|planner| planner.name());
+        let Comparison { calls, refused, mixed, partial, .. } = self;
+        format!(
+            "{ours} and {second} do not differ in {calls} calls, of which {refused} are refused, {mixed} write a book \
+             with kept and lost states, and {partial} drop some states and keep others"
+        )
+    }
+
+    /// Compares a make with a buffer of this length, and hands back the answer and the book, empty if refused.
+    pub fn make(&mut self, plant: &[u8], mask: u32, length: usize) -> (Answer, Vec<u8>) {
+        let input = || format!("make, mask {mask:#x}, buffer {length}, plant {}", hex(plant));
+        let before = plant.to_vec();
+        let mut books = [(); 2].map(|()| Buffer::new(length, self.calls));
+        let [ours, second] = &mut books;
+        let answers = [self.ours.make(plant, mask, ours.lent()), self.second.make(plant, mask, second.lent())];
+        self.same_answer(answers, &input);
+        self.same_bytes("plant", plant, &before, &input);
+        self.written(books, answers[0], &input)
+    }
+
+    /// Compares a withdrawal with buffers of these lengths, and hands back the answer and the book, empty if refused.
+    /// The dropped states may be in any order.
+    pub fn withdraw(&mut self, plant: &[u8], book: &[u8], mask: u32, lengths: [usize; 2]) -> (Answer, Vec<u8>) {
+        let input = || {
+            let [book, plant] = [hex(book), hex(plant)];
+            format!("withdraw, mask {mask:#x}, buffers {lengths:?}, book {book}, plant {plant}")
+        };
+        let before = [plant.to_vec(), book.to_vec()];
+        let mut books = [(); 2].map(|()| Buffer::new(lengths[0], self.calls));
+        let mut lists = [(); 2].map(|()| Buffer::new(lengths[1], self.calls));
+        let ([ours, second], [our_list, second_list]) = (&mut books, &mut lists);
+        let answers = [
+            self.ours.withdraw(plant, book, mask, ours.lent(), our_list.lent()),
+            self.second.withdraw(plant, book, mask, second.lent(), second_list.lent()),
+        ];
+        self.same_answer(answers, &input);
+        self.same_bytes("plant", plant, &before[0], &input);
+        self.same_bytes("book", book, &before[1], &input);
+        for list in &mut lists {
+            list.sort_numbers(2 * answers[0].drops as usize);
+        }
+        self.same_bytes("drop buffer", &lists[0].bytes, &lists[1].bytes, &input);
+        self.written(books, answers[0], &input)
+    }
+
+    /// Compares a consult, and hands back the advice.
+    pub fn consult(&mut self, book: &[u8], state: u32, goal: u32) -> Advice {
+        let input = || format!("consult, state {state}, goal {goal}, book {}", hex(book));
+        let advice = [self.ours, self.second].map(|planner| planner.consult(book, state, goal));
+        self.same_answer(advice, &input);
+        self.count(advice[0].number);
+        advice[0]
+    }
+
+    /// Compares a row, and hands back its place. Its number must be the one of consult with goal 0.
+    pub fn row(&mut self, book: &[u8], state: u32) -> Part {
+        let input = || format!("row, state {state}, book {}", hex(book));
+        let parts = [self.ours, self.second].map(|planner| planner.row(book, state));
+        self.same_answer(parts, &input);
+        self.same_answer([parts[0].number, self.ours.consult(book, state, 0).number], &input);
+        self.count(parts[0].number);
+        parts[0]
+    }
+
+    /// A book that must be the one that the second planner makes afresh for these moves.
+    pub fn made_afresh(&self, plant: &[u8], mask: u32, book: &[u8]) {
+        let input = || format!("book after a list of calls, moves {mask:#x}, plant {}", hex(plant));
+        let mut afresh = vec![0; book.len()];
+        let answer = self.second.make(plant, mask, &mut afresh);
+        self.same_answer([answer.length as usize, book.len()], &input);
+        self.same_bytes("book", book, &afresh, &input);
+    }
+
+    /// Compares the books in two buffers, bytes beside them included, and hands one back.
+    fn written(&mut self, books: [Buffer; 2], answer: Answer, input: &dyn Fn() -> String) -> (Answer, Vec<u8>) {
+        let [mut ours, second] = books;
+        self.same_bytes("book buffer", &ours.bytes, &second.bytes, input);
+        if answer.number != 0 {
+            let before = Buffer::new(ours.length, self.calls);
+            self.same_bytes("book buffer after a refusal", &ours.bytes, &before.bytes, input);
+        }
+        self.count(answer.number);
+        let book = ours.lent()[..answer.length as usize].to_vec();
+        if answer.number == 0 {
+            let [states, kept] = [0, 6].map(|at| u16::from_le_bytes([book[at], book[at + 1]]));
+            self.mixed += u64::from(kept != 0 && kept != states);
+            self.partial += u64::from(kept != 0 && answer.drops != 0);
+        }
+        (answer, book)
+    }
+
+    fn same_answer<T: PartialEq + Debug>(&self, [ours, second]: [T; 2], input: &dyn Fn() -> String) {
+        if ours != second {
+            self.differ(&format!("answers {ours:?} and {second:?}"), input);
+        }
+    }
+
+    fn same_bytes(&self, what: &str, ours: &[u8], second: &[u8], input: &dyn Fn() -> String) {
+        if ours != second {
+            let at = ours.iter().zip(second).take_while(|(a, b)| a == b).count();
+            let [ours, second] = [ours, second].map(|bytes| hex(&bytes[at..bytes.len().min(at + 16)]));
+            self.differ(&format!("{what}, from byte {at} on: {ours} and {second}"), input);
+        }
+    }
+
+    fn differ(&self, what: &str, input: &dyn Fn() -> String) -> ! {
+        let [ours, second] = [self.ours, self.second].map(|planner| planner.name());
+        panic!("{ours} and {second} differ at call {}: {what}\nin {}", self.calls, input())
+    }
+
+    fn count(&mut self, number: u32) {
+        self.calls += 1;
+        self.refused += u64::from(number != 0);
+    }
+}
+
+/// Bytes in hex.
+fn hex(bytes: &[u8]) -> String {
+    bytes.iter().map(|byte| format!("{byte:02x}")).collect()
+}

@@ -1,0 +1,402 @@
+//! What is compared: exhaustive rounds on strip plant P, and random rounds that a seed fixes.
+
+use super::Comparison;
+use crate::plants::{self, bytes_of, Model, Random, FAMILIES};
+
+/// A random round: some calls on inputs that come from the numbers given.
+pub type Round = fn(&mut Comparison, &mut Random);
+
+/// The random rounds, with their names.
+pub const RANDOM_ROUNDS: [(&str, Round); 6] = [
+    ("lists of calls", list_of_calls),
+    ("invented books", invented_book),
+    ("damaged plants", damaged_plant),
+    ("damaged books", damaged_book),
+    ("random headers", random_header),
+    ("buffers", buffers),
+];
+
+/// The rounds that leave nothing to chance.
+pub const EXHAUSTIVE_ROUNDS: [fn(&mut Comparison); 5] =
+    [single_bytes, other_lengths, every_mask, every_buffer, largest];
+
+/// Runs random rounds of one kind, from a seed on, until so many calls were compared; answers how many rounds.
+pub fn run(comparison: &mut Comparison, round: Round, seed: u64, calls: u64) -> u64 {
+    let end = comparison.calls() + calls;
+    let mut rounds = 0;
+    while comparison.calls() < end {
+        round(comparison, &mut Random::new(seed + rounds));
+        rounds += 1;
+    }
+    rounds
+}
+
+/// A plant of any size or family.
+fn any_plant(random: &mut Random) -> Model {
+    if random.once_in(8) {
+        let states = random.from_to(1, 160) as u16;
+        FAMILIES[random.below(FAMILIES.len())].build(states, random.bits())
+    } else {
+        plants::any_size(random)
+    }
+}
+
+/// How long the model's books are.
+fn book_length(model: &Model) -> usize {
+    16 + 4 * model.labels.len() * usize::from(model.goals)
+}
+
+/// How long the buffer for dropped states must be.
+fn list_length(model: &Model) -> usize {
+    2 * model.labels.len()
+}
+
+/// Moves to have in service: mostly many of them.
+fn many_moves(model: &Model, random: &mut Random) -> u32 {
+    let [a, b, c] = [(); 3].map(|()| random.bits() as u32);
+    let mask = match random.below(8) {
+        0 => a,
+        1..=3 => a | b | c,
+        _ => u32::MAX,
+    };
+    mask & model.every_move()
+}
+
+/// Moves to withdraw: mostly few of them.
+fn few_moves(model: &Model, random: &mut Random) -> u32 {
+    let [a, b, c] = [(); 3].map(|()| random.bits() as u32);
+    let mask = match random.below(8) {
+        0 => a,
+        1 => 0,
+        2..=3 => a & b & c,
+        _ => 1 << random.below(model.moves.into()),
+    };
+    mask & model.every_move()
+}
+
+/// The mask, or once in a while one that names moves that the plant may not have.
+fn or_too_high(mask: u32, random: &mut Random) -> u32 {
+    if random.once_in(10) {
+        mask | 1 << random.below(32)
+    } else {
+        mask
+    }
+}
+
+/// A length that is often enough, sometimes exactly, and sometimes too short.
+fn any_length(needed: usize, random: &mut Random) -> usize {
+    match random.below(16) {
+        0 => needed.saturating_sub(random.from_to(1, 3)),
+        1 => random.below(needed),
+        2..=4 => needed + random.from_to(1, 40),
+        _ => needed,
+    }
+}
+
+/// The first, the last and some other state, consulted for some goals, and their rows; and what is just out of range.
+fn look_up(comparison: &mut Comparison, book: &[u8], model: &Model, random: &mut Random) {
+    let (states, goals) = (model.labels.len() as u32, u32::from(model.goals));
+    for state in [0, random.below(states as usize) as u32, states - 1] {
+        for goal in [random.below(goals as usize) as u32, goals - 1] {
+            comparison.consult(book, state, goal);
+        }
+        comparison.row(book, state);
+    }
+    let far = random.bits() as u32;
+    comparison.consult(book, states, 0);
+    comparison.consult(book, 0, goals);
+    comparison.consult(book, far, far);
+    comparison.row(book, states);
+    comparison.row(book, far);
+}
+
+/// A list of makes and withdrawals on one plant, refused ones among them. The standing book is always the one made
+/// afresh for the moves in service, and whether a call is refused is told from its mask and buffers alone.
+fn list_of_calls(comparison: &mut Comparison, random: &mut Random) {
+    let model = any_plant(random);
+    let plant = model.bytes();
+    let (needed, listed) = (book_length(&model), list_length(&model));
+    let mut in_service = many_moves(&model, random);
+    let (_, mut standing) = comparison.make(&plant, in_service, needed);
+    for _ in 0..random.from_to(0, 12) {
+        let makes = random.once_in(5);
+        let mask = if makes { many_moves(&model, random) } else { few_moves(&model, random) };
+        let mask = or_too_high(mask, random);
+        let length = any_length(needed, random);
+        let list = any_length(listed, random);
+        let (answer, book) = if makes {
+            comparison.make(&plant, mask, length)
+        } else {
+            comparison.withdraw(&plant, &standing, mask, [length, list])
+        };
+        let short = length < needed || !makes && list < listed;
+        let expected = match (mask & !model.every_move() != 0, short) {
+            (true, _) => 6,
+            (false, true) => 7,
+            (false, false) => 0,
+        };
+        assert_eq!(answer.number, expected, "told from the calls alone");
+        if answer.number == 0 {
+            in_service = if makes { mask } else { in_service & !mask };
+            standing = book;
+        }
+        comparison.made_afresh(&plant, in_service, &standing);
+    }
+    look_up(comparison, &standing, &model, random);
+}
+
+/// A book with rows that nobody made, and that is accepted all the same.
+fn invent_book(model: &Model, random: &mut Random) -> Vec<u8> {
+    let mask = many_moves(model, random);
+    let actions: Vec<u16> = (0..32).filter(|action| mask >> action & 1 != 0).collect();
+    let often = [1, 2, 4, 8, 16, 32, 64, 128][random.below(8)];
+    let mut kept = 0;
+    let mut rows = Vec::new();
+    for _ in &model.labels {
+        let lost = actions.is_empty() || random.once_in(often);
+        kept += u16::from(!lost);
+        for _ in 0..model.goals {
+            if lost {
+                rows.extend([u16::MAX; 2]);
+            } else {
+                rows.extend([random.below(1024) as u16, actions[random.below(actions.len())]]);
+            }
+        }
+    }
+    let states = model.labels.len() as u16;
+    let length = book_length(model) as u16;
+    let header = [states, model.moves, model.goals, kept, mask as u16, (mask >> 16) as u16, 16, length];
+    bytes_of(header.iter().chain(&rows))
+}
+
+fn invented_book(comparison: &mut Comparison, random: &mut Random) {
+    let model = any_plant(random);
+    withdrawals_from_invented(comparison, &model, random);
+}
+
+/// Withdrawals from a book that nobody made, and from what they write; and lookups in them.
+pub fn withdrawals_from_invented(comparison: &mut Comparison, model: &Model, random: &mut Random) {
+    let plant = model.bytes();
+    let mut book = invent_book(model, random);
+    for _ in 0..3 {
+        let mask = few_moves(model, random);
+        let (answer, next) = comparison.withdraw(&plant, &book, mask, [book_length(model), list_length(model)]);
+        assert_eq!(answer.number, 0, "an invented book is accepted");
+        look_up(comparison, &book, model, random);
+        book = next;
+    }
+}
+
+/// The plant made with all moves in service, and then one more withdrawn each time, from the highest down.
+pub fn each_move_in_turn(comparison: &mut Comparison, model: &Model) {
+    let plant = model.bytes();
+    let lengths = [book_length(model), list_length(model)];
+    let (_, mut book) = comparison.make(&plant, model.every_move(), lengths[0]);
+    for action in (0..model.moves).rev() {
+        book = comparison.withdraw(&plant, &book, 1 << action, lengths).1;
+        comparison.made_afresh(&plant, (1 << action) - 1, &book);
+    }
+}
+
+/// Some bytes changed, cut off or added.
+fn damage(bytes: &mut Vec<u8>, random: &mut Random) {
+    match random.below(8) {
+        0 => bytes.truncate(random.below(bytes.len() + 1)),
+        1 => bytes.extend((0..random.from_to(1, 9)).map(|_| random.bits() as u8)),
+        2 => {
+            let (a, b) = (random.below(bytes.len()), random.below(bytes.len()));
+            bytes.swap(a, b);
+        }
+        _ => {
+            for _ in 0..random.from_to(1, 2) {
+                let at = random.below(bytes.len());
+                bytes[at] = [0, 1, 0xff, bytes[at].wrapping_add(1), random.bits() as u8][random.below(5)];
+            }
+        }
+    }
+}
+
+/// Plants with some bytes damaged, made of and withdrawn with.
+fn damaged_plant(comparison: &mut Comparison, random: &mut Random) {
+    let model = plants::tiny(random);
+    let book = invent_book(&model, random);
+    for _ in 0..8 {
+        let mut plant = model.bytes();
+        damage(&mut plant, random);
+        let mask = or_too_high(many_moves(&model, random), random);
+        comparison.make(&plant, mask, any_length(book.len(), random));
+        let mask = or_too_high(few_moves(&model, random), random);
+        comparison.withdraw(&plant, &book, mask, [any_length(book.len(), random), list_length(&model)]);
+    }
+}
+
+/// Books with some bytes damaged, withdrawn from and looked up in.
+fn damaged_book(comparison: &mut Comparison, random: &mut Random) {
+    let model = plants::tiny(random);
+    let plant = model.bytes();
+    let (_, whole) = comparison.make(&plant, model.every_move(), book_length(&model));
+    for _ in 0..8 {
+        let mut book = if random.once_in(2) { whole.clone() } else { invent_book(&model, random) };
+        damage(&mut book, random);
+        let mask = or_too_high(few_moves(&model, random), random);
+        comparison.withdraw(&plant, &book, mask, [any_length(whole.len(), random), list_length(&model)]);
+        look_up(comparison, &book, &model, random);
+    }
+}
+
+/// Bytes whose header is random, with counts near the edges of their ranges and places that mostly fit them.
+fn random_header(comparison: &mut Comparison, random: &mut Random) {
+    let near = |random: &mut Random, most: usize| match random.below(16) {
+        0 => random.below(1 << 16),
+        1 => random.below(3),
+        2..=4 => most + 1 - random.below(3),
+        _ => random.from_to(1, most),
+    };
+    let (states, moves, goals) = (near(random, 1024), near(random, 32), near(random, 8));
+    let mut header = |numbers: [usize; 8]| {
+        bytes_of(&numbers.map(|number| if random.once_in(40) { random.below(1 << 16) } else { number } as u16))
+    };
+    let [plant_length, book_length] = [16 + 2 * states, 16 + 4 * states * goals].map(|length| length % (1 << 16));
+    let mut plant = header([states, moves, goals, 0, 16, plant_length, plant_length, 0]);
+    let mut book = header([states, moves, goals, 0, 0, 0, 16, book_length]);
+    plant.resize(plant_length.max(16), 0);
+    book.resize(book_length.max(16), 0xff);
+    for _ in 0..2 {
+        comparison.make(&plant, random.bits() as u32 & 3, 1 << 15 | 16);
+        comparison.withdraw(&plant, &book, random.bits() as u32 & 3, [1 << 15 | 16, 2048]);
+        comparison.consult(&book, random.below(1025) as u32, random.below(9) as u32);
+        comparison.row(&book, random.below(1025) as u32);
+        plant.truncate(random.below(plant.len() + 1));
+        book.truncate(random.below(book.len() + 1));
+    }
+}
+
+/// Buffers of every length around their limits.
+fn buffers(comparison: &mut Comparison, random: &mut Random) {
+    let model = any_plant(random);
+    let plant = model.bytes();
+    let (needed, listed) = (book_length(&model), list_length(&model));
+    let made = many_moves(&model, random);
+    let withdrawn = few_moves(&model, random);
+    let (_, book) = comparison.make(&plant, made, needed);
+    for less in 0..6 {
+        let (length, list) = ((needed + 3).saturating_sub(less), (listed + 3).saturating_sub(less));
+        comparison.make(&plant, made, length);
+        comparison.withdraw(&plant, &book, withdrawn, [length, listed]);
+        comparison.withdraw(&plant, &book, withdrawn, [needed, list]);
+    }
+    for length in [0, 1, 15, 16, 17] {
+        comparison.make(&plant, made, length);
+        comparison.withdraw(&plant, &book, withdrawn, [needed, length]);
+    }
+}
+
+/// Strip plant P with all moves in service.
+fn strip_and_book(comparison: &mut Comparison) -> (Vec<u8>, Vec<u8>) {
+    let plant = plants::strip().bytes();
+    let (_, book) = comparison.make(&plant, 7, 48);
+    (plant, book)
+}
+
+/// Every byte of P and of its book changed to every other value, in every call.
+fn single_bytes(comparison: &mut Comparison) {
+    let (plant, book) = strip_and_book(comparison);
+    for at in 0..plant.len() {
+        for value in (0..=255).filter(|&value| value != plant[at]) {
+            let mut plant = plant.clone();
+            plant[at] = value;
+            comparison.make(&plant, 7, 64);
+            comparison.withdraw(&plant, &book, 4, [64, 16]);
+        }
+    }
+    for at in 0..book.len() {
+        for value in (0..=255).filter(|&value| value != book[at]) {
+            let mut book = book.clone();
+            book[at] = value;
+            comparison.withdraw(&plant, &book, 4, [48, 8]);
+            for state in 0..5 {
+                comparison.consult(&book, state, state % 3);
+                comparison.row(&book, state);
+            }
+        }
+    }
+}
+
+/// P and its book cut short everywhere, and with bytes added.
+fn other_lengths(comparison: &mut Comparison) {
+    let (plant, book) = strip_and_book(comparison);
+    let of_length = |bytes: &[u8], length: usize| {
+        let mut bytes = bytes.to_vec();
+        bytes.resize(length, 0);
+        bytes
+    };
+    for length in 0..plant.len() + 20 {
+        let plant = of_length(&plant, length);
+        comparison.make(&plant, 7, 48);
+        comparison.withdraw(&plant, &book, 4, [48, 8]);
+    }
+    for length in 0..book.len() + 20 {
+        let book = of_length(&book, length);
+        comparison.withdraw(&plant, &book, 4, [48, 8]);
+        comparison.consult(&book, 0, 1);
+        comparison.row(&book, 0);
+    }
+}
+
+/// P with every pair of a mask made and a mask withdrawn, those that name a fourth move included.
+fn every_mask(comparison: &mut Comparison) {
+    let plant = plants::strip().bytes();
+    for made in 0..16 {
+        let (_, book) = comparison.make(&plant, made, 48);
+        for withdrawn in 0..16 {
+            let (_, rest) = comparison.withdraw(&plant, &book, withdrawn, [48, 8]);
+            for state in 0..4 {
+                comparison.consult(&rest, state, 0);
+                comparison.row(&rest, state);
+            }
+        }
+    }
+}
+
+/// P with buffers of every length up to some bytes more than is needed.
+fn every_buffer(comparison: &mut Comparison) {
+    let (plant, book) = strip_and_book(comparison);
+    for length in 0..56 {
+        comparison.make(&plant, 7, length);
+        for list in 0..16 {
+            comparison.withdraw(&plant, &book, 1, [length, list]);
+        }
+    }
+}
+
+/// The largest plants, and those just past each limit.
+fn largest(comparison: &mut Comparison) {
+    for (states, moves, goals, arrows) in [
+        (1024, 32, 8, 8192),
+        (1025, 32, 8, 8192),
+        (1024, 33, 8, 8192),
+        (1024, 32, 9, 8192),
+        (1024, 32, 8, 8193),
+        (1, 1, 1, 0),
+        (0, 1, 1, 0),
+        (1, 0, 1, 0),
+        (1, 1, 0, 0),
+    ] {
+        let plant = filled(states, moves, goals, arrows).bytes();
+        let mask = u32::MAX >> (32 - moves.clamp(1, 32));
+        let (_, book) = comparison.make(&plant, mask, 1 << 16);
+        comparison.withdraw(&plant, &book, mask & 1, [1 << 16, 1 << 12]);
+        comparison.consult(&book, 1023, 7);
+        comparison.row(&book, 1023);
+    }
+}
+
+/// A plant with exactly these counts: every state allowed and in every goal, and arrows spread evenly.
+fn filled(states: u16, moves: u16, goals: u16, arrows: u16) -> Model {
+    let label = ((1u32 << (goals + 1)) - 1) as u16;
+    let arrow = |number: u16| {
+        let (from, lap) = (number % states, number / states);
+        [from, lap % moves, (from + lap / moves + 1) % states]
+    };
+    Model { moves, goals, labels: vec![label; states.into()], arrows: (0..arrows).map(arrow).collect() }
+}

@@ -1,0 +1,49 @@
+//! Control books for plants with moves withdrawn.
+//!
+//! A *plant* is a finite transition system: states, moves (actions), goals (sets of states to be met again and again)
+//! and arrows (transitions), some states being allowed. A *book* says for each state whether it is kept (in the winning
+//! region) or lost, and for a kept state and each goal the move to make and the wait, the least number of moves that
+//! forces the goal. Both are bytes; their formats are in the repository's README.
+//!
+//! With the feature `linked`, which is on by default, [`Book`] and the functions [`make_into`], [`withdraw_into`],
+//! [`consult`] and [`row`] call the proved library. They take slices, answer a [`Result`] with a [`Refusal`], and need
+//! no `unsafe` in the caller's code.
+//!
+#![cfg_attr(feature = "linked", doc = "```")]
+#![cfg_attr(not(feature = "linked"), doc = "```ignore")]
+//! use planbook::{Advice, Book};
+//!
+//! // Strip plant P: 4 states, 3 moves, 2 goals, 8 arrows.
+//! let plant = planbook::plants::strip().bytes();
+//! let book = Book::make(&plant, 0b111)?;
+//! assert_eq!(book.kept_count(), 3);
+//! assert_eq!(book.consult(0, 1)?, Advice::Move { action: 0, wait: 2, seek: 1 });
+//! assert_eq!(book.consult(3, 0)?, Advice::Lost);
+//!
+//! // Move 2 goes out of service: the way from state 1 to goal 0 gets longer, and no state is dropped.
+//! let (book, dropped) = book.withdraw(0b100)?;
+//! assert_eq!(dropped, []);
+//! assert_eq!(book.consult(1, 0)?, Advice::Move { action: 0, wait: 2, seek: 0 });
+//! # Ok::<(), planbook::Refusal>(())
+//! ```
+//!
+//! The rest of the crate is for checking: [`second`] has solvers made by other means, [`plants`] generates plants,
+//! [`calls`] puts the library and the solvers behind one trait, and [`compare`] holds two of them against each other,
+//! byte for byte.
+
+#![warn(missing_docs)]
+#![cfg_attr(test, deny(warnings))]
+
+pub mod calls;
+pub mod compare;
+pub mod plants;
+pub mod second;
+pub mod sys;
+
+mod refusal;
+pub use refusal::Refusal;
+
+#[cfg(feature = "linked")]
+mod book;
+#[cfg(feature = "linked")]
+pub use book::{consult, make_into, row, withdraw_into, Advice, Book, Entry, Withdrawn};

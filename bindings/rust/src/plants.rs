@@ -1,0 +1,386 @@
+//! Plants for tests and benchmarks: families of a fixed shape, and random ones from a fixed seed.
+
+/// A plant as it is built; [`Model::bytes`] lays it out.
+#[derive(Clone, Debug, PartialEq, Eq)]
+pub struct Model {
+    /// U, the number of moves.
+    pub moves: u16,
+    /// N, the number of goals.
+    pub goals: u16,
+    /// A label for each state: bit 0 allowed, bit 1 + i in goal i.
+    pub labels: Vec<u16>,
+    /// From, move, to.
+    pub arrows: Vec<[u16; 3]>,
+}
+
+/// The most arrows that a plant may have.
+const MOST_ARROWS: usize = 8192;
+
+impl Model {
+    /// The plant's bytes. Arrows are put in order, and doubles left out.
+    pub fn bytes(&self) -> Vec<u8> {
+        let mut arrows = self.arrows.clone();
+        arrows.sort_unstable();
+        arrows.dedup();
+        let states = self.labels.len() as u16;
+        let arrows_at = 16 + 2 * states;
+        let length = arrows_at + 6 * arrows.len() as u16;
+        let header = [states, self.moves, self.goals, arrows.len() as u16, 16, arrows_at, length, 0];
+        bytes_of(header.iter().chain(&self.labels).chain(arrows.iter().flatten()))
+    }
+
+    /// The mask with all moves in service.
+    pub fn every_move(&self) -> u32 {
+        u32::MAX >> (32 - self.moves)
+    }
+
+    /// The mask of the highest move alone.
+    pub fn highest_move(&self) -> u32 {
+        1 << (self.moves - 1)
+    }
+
+    fn states(&self) -> u16 {
+        self.labels.len() as u16
+    }
+}
+
+/// Two-byte numbers, one after another.
+pub fn bytes_of<'a>(numbers: impl IntoIterator<Item = &'a u16>) -> Vec<u8> {
+    numbers.into_iter().flat_map(|number| number.to_le_bytes()).collect()
+}
+
+/// Numbers that look random and are the same for the same seed (splitmix64).
+#[derive(Clone, Debug)]
+pub struct Random(u64);
+
+impl Random {
+    /// The numbers of a seed.
+    pub fn new(seed: u64) -> Random {
+        Random(seed)
+    }
+
+    /// The next 64 bits.
+    pub fn bits(&mut self) -> u64 {
+        self.0 = self.0.wrapping_add(0x9e37_79b9_7f4a_7c15);
+        let mut mixed = self.0;
+        mixed = (mixed ^ (mixed >> 30)).wrapping_mul(0xbf58_476d_1ce4_e5b9);
+        mixed = (mixed ^ (mixed >> 27)).wrapping_mul(0x94d0_49bb_1331_11eb);
+        mixed ^ (mixed >> 31)
+    }
+
+    /// A number below `bound`, which is not 0.
+    pub fn below(&mut self, bound: usize) -> usize {
+        (self.bits() % bound as u64) as usize
+    }
+
+    /// A number from `low` to `high`, both included.
+    pub fn from_to(&mut self, low: usize, high: usize) -> usize {
+        low + self.below(high - low + 1)
+    }
+
+    /// True once in `times`.
+    pub fn once_in(&mut self, times: usize) -> bool {
+        self.below(times) == 0
+    }
+
+    /// One of the numbers below `bound`.
+    fn pick(&mut self, bound: u16) -> u16 {
+        self.below(bound.into()) as u16
+    }
+}
+
+/// Strip plant P of document 01.
+pub fn strip() -> Model {
+    Model {
+        moves: 3,
+        goals: 2,
+        labels: vec![3, 1, 5, 0],
+        arrows: vec![[0, 0, 1], [0, 1, 1], [0, 1, 2], [1, 0, 2], [1, 1, 3], [1, 2, 0], [2, 0, 0], [2, 2, 1]],
+    }
+}
+
+/// The families of plants. Each is built for any number of states from 1 to 1,024 and any seed. To withdraw the highest
+/// move of a plant is what its family is meant to show.
+#[derive(Clone, Copy, Debug, PartialEq, Eq)]
+pub enum Family {
+    /// Arrows between any states, some states not allowed, goals anywhere.
+    Random,
+    /// Layers with arrows to the next layer only, the last to the first; each goal is in one layer.
+    Layered,
+    /// A ring with goals on one state each, so that waits get as long as they can.
+    Ring,
+    /// Few moves with many arrows each: about as many in all as a plant may have, from 256 states on.
+    Dense,
+    /// Every state in the one goal, each with an arrow to the next only, and the last one with a move of its own to
+    /// stay: without that move all are lost, one more in each round.
+    Chain,
+    /// Rungs that can be stayed on for ever, each of which has its way to the goals over the one below, and the lowest by
+    /// a move of its own: without that move all are lost, one more rung in each round.
+    Ladder,
+    /// A ladder beside a ring that stays kept: without the ladder's move many rounds, each with long waits.
+    LadderRing,
+    /// A grid with walls, moves in four directions that may slip aside, and goals in the corners.
+    Grid,
+}
+
+/// All families.
+pub const FAMILIES: [Family; 8] = [
+    Family::Random,
+    Family::Layered,
+    Family::Ring,
+    Family::Dense,
+    Family::Chain,
+    Family::Ladder,
+    Family::LadderRing,
+    Family::Grid,
+];
+
+impl Family {
+    /// The family's name, for tables and messages.
+    pub fn name(self) -> &'static str {
+        match self {
+            Family::Random => "random",
+            Family::Layered => "layered",
+            Family::Ring => "ring",
+            Family::Dense => "dense",
+            Family::Chain => "chain",
+            Family::Ladder => "ladder",
+            Family::LadderRing => "ladder-ring",
+            Family::Grid => "grid",
+        }
+    }
+
+    /// The plant of this family with so many states.
+    pub fn build(self, states: u16, seed: u64) -> Model {
+        let random = &mut Random::new(seed ^ (u64::from(states) << 32));
+        match self {
+            Family::Random => scattered(states, random),
+            Family::Layered => layered(states, random),
+            Family::Ring => ring(states, random),
+            Family::Dense => dense(states, random),
+            Family::Chain => chain(states),
+            Family::Ladder => ladder(states),
+            Family::LadderRing => ladder_ring(states),
+            Family::Grid => grid(states, random),
+        }
+    }
+}
+
+/// A plant with all states allowed and no arrows.
+fn empty(states: u16, moves: u16, goals: u16) -> Model {
+    Model { moves, goals, labels: vec![1; states.into()], arrows: Vec::new() }
+}
+
+/// Puts the state in the goal.
+fn set_goal(model: &mut Model, state: u16, goal: u16) {
+    model.labels[usize::from(state)] |= 2 << goal;
+}
+
+fn scattered(states: u16, random: &mut Random) -> Model {
+    let mut model = empty(states, 16, 4);
+    for state in 0..states {
+        if random.once_in(16) {
+            model.labels[usize::from(state)] = 0;
+        }
+        for goal in 0..model.goals {
+            if random.once_in(12) {
+                set_goal(&mut model, state, goal);
+            }
+        }
+        for _ in 0..4 {
+            let action = random.pick(model.moves);
+            for _ in 0..random.from_to(1, 2) {
+                model.arrows.push([state, action, random.pick(states)]);
+            }
+        }
+    }
+    model
+}
+
+fn layered(states: u16, random: &mut Random) -> Model {
+    let mut model = empty(states, 8, 4);
+    let width = (states / 16).max(1);
+    let layers = states.div_ceil(width);
+    let in_layer = |layer: u16, random: &mut Random| (layer * width + random.pick(width)).min(states - 1);
+    for state in 0..states {
+        let layer = state / width;
+        if layer % (layers / 4).max(1) == 0 {
+            set_goal(&mut model, state, (layer / (layers / 4).max(1)) % 4);
+        }
+        for _ in 0..3 {
+            let action = random.pick(8);
+            for _ in 0..2 {
+                let end = in_layer((layer + 1) % layers, random);
+                model.arrows.push([state, action, end]);
+            }
+        }
+    }
+    model
+}
+
+fn ring(states: u16, random: &mut Random) -> Model {
+    let mut model = empty(states, 4, 2);
+    set_goal(&mut model, 0, 0);
+    set_goal(&mut model, states / 2, 1);
+    for state in 0..states {
+        model.arrows.push([state, 0, (state + 1) % states]);
+        // A move that may stay behind, and one that goes back: neither is a shorter way. The last is, here and there.
+        model.arrows.push([state, 1, state]);
+        model.arrows.push([state, 1, (state + 1) % states]);
+        model.arrows.push([state, 2, random.pick(state + 1)]);
+        if state % 16 == 3 {
+            model.arrows.push([state, 3, (state + 4) % states]);
+        }
+    }
+    model
+}
+
+fn dense(states: u16, random: &mut Random) -> Model {
+    let mut model = empty(states, 2, 2);
+    let fan = (MOST_ARROWS as u16 / (2 * states)).min(states / 4).max(1);
+    for state in 0..states {
+        // No step of move 0 is so long that it could pass over a goal.
+        for goal in 0..2 {
+            if (state + goal * (states / 2)) % states < fan {
+                set_goal(&mut model, state, goal);
+            }
+        }
+        for step in 1..=fan {
+            model.arrows.push([state, 0, (state + step) % states]);
+            model.arrows.push([state, 1, (state + 1 + random.pick(2 * fan)) % states]);
+        }
+    }
+    model
+}
+
+fn chain(states: u16) -> Model {
+    let mut model = empty(states, 2, 1);
+    for state in 0..states {
+        set_goal(&mut model, state, 0);
+        if state + 1 < states {
+            model.arrows.push([state, 0, state + 1]);
+        }
+    }
+    model.arrows.push([states - 1, 1, states - 1]);
+    model
+}
+
+/// Adds rungs of two states each, from state `first` up to `end`: an upper one in every goal, which leads to the lower
+/// one only, and a lower one that may stay, or go to the upper one of the rung before. The first rung has only move 2
+/// for that.
+fn add_rungs(model: &mut Model, first: u16, end: u16) {
+    for lower in (first..end).step_by(2) {
+        model.arrows.push([lower, 0, lower]);
+        if lower > first {
+            model.arrows.push([lower, 1, lower - 1]);
+        }
+        let upper = lower + 1;
+        if upper < end {
+            for goal in 0..model.goals {
+                set_goal(model, upper, goal);
+            }
+            model.arrows.push([upper, 0, lower]);
+        }
+    }
+    if first + 1 < end {
+        model.arrows.push([first, 2, first + 1]);
+    }
+}
+
+fn ladder(states: u16) -> Model {
+    let mut model = empty(states, 3, 2);
+    add_rungs(&mut model, 0, states);
+    model
+}
+
+fn ladder_ring(states: u16) -> Model {
+    let mut model = empty(states, 3, 1);
+    let around = states.div_ceil(2);
+    set_goal(&mut model, 0, 0);
+    for state in 0..around {
+        model.arrows.push([state, 0, (state + 1) % around]);
+    }
+    add_rungs(&mut model, around, states);
+    model
+}
+
+fn grid(states: u16, random: &mut Random) -> Model {
+    let mut model = empty(states, 4, 4);
+    let width = (f64::from(states).sqrt() as u16).max(1);
+    let height = states / width;
+    for (goal, corner) in [0, width - 1, (height - 1) * width, height * width - 1].into_iter().enumerate() {
+        set_goal(&mut model, corner, goal as u16);
+    }
+    for state in 0..states {
+        if model.labels[usize::from(state)] == 1 && random.once_in(12) {
+            model.labels[usize::from(state)] = 0;
+        }
+        let (column, line) = (i32::from(state % width), i32::from(state / width));
+        for (action, (right, down)) in [(1, 0), (0, 1), (-1, 0), (0, -1)].into_iter().enumerate() {
+            // Where it was aimed, and in some places one aside of that.
+            let slip = if random.once_in(6) { 1 } else { 0 };
+            for aside in 0..=slip {
+                let (column, line) = (column + right + aside * down, line + down + aside * right);
+                let inside = (0..i32::from(width)).contains(&column) && (0..i32::from(height)).contains(&line);
+                let end = if inside { line as u16 * width + column as u16 } else { state };
+                model.arrows.push([state, action as u16, end]);
+            }
+        }
+    }
+    model
+}
+
+/// A plant of any size whatever, with counts often at the edges of their ranges. Most have some states that are kept
+/// and some that are lost.
+pub fn any_size(random: &mut Random) -> Model {
+    let edge = |random: &mut Random, low: usize, high: usize| match random.below(8) {
+        0 => low,
+        1 => high,
+        _ => random.from_to(low, high),
+    };
+    let states = match random.below(8) {
+        0 => edge(random, 1, 1024),
+        1..=2 => edge(random, 1, 128),
+        _ => edge(random, 1, 24),
+    };
+    let mut model = empty(states as u16, edge(random, 1, 32) as u16, edge(random, 1, 8) as u16);
+    let forbidden = random.from_to(4, 60);
+    let served = random.from_to(1, 4);
+    for label in &mut model.labels {
+        *label = u16::from(!random.once_in(forbidden));
+        for goal in 0..model.goals {
+            *label |= u16::from(random.once_in(served)) << (1 + goal);
+        }
+    }
+    let arrows = match random.below(8) {
+        0 => edge(random, 0, 8 * states),
+        _ => random.from_to(2 * states, 8 * states),
+    };
+    for _ in 0..arrows {
+        let from = random.pick(model.states());
+        let near = (from + random.pick(3)) % model.states();
+        let to = if random.once_in(2) { near } else { random.pick(model.states()) };
+        model.arrows.push([from, random.pick(model.moves), to]);
+    }
+    model
+}
+
+/// A plant of a few states and moves, for the brute solver.
+pub fn tiny(random: &mut Random) -> Model {
+    let states = random.from_to(1, 5) as u16;
+    let mut model = empty(states, random.from_to(1, 3) as u16, random.from_to(1, 3) as u16);
+    for label in &mut model.labels {
+        *label = u16::from(!random.once_in(10));
+        for goal in 0..model.goals {
+            *label |= u16::from(random.once_in(3)) << (1 + goal);
+        }
+    }
+    for state in 0..states {
+        for action in 0..model.moves {
+            for _ in 0..[0, 1, 1, 1, 2, 3][random.below(6)] {
+                model.arrows.push([state, action, random.pick(states)]);
+            }
+        }
+    }
+    model
+}

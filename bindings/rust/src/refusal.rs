@@ -1,0 +1,123 @@
+//! Why a call was refused.
+
+use std::fmt;
+
+/// The numbers 1 to 8 that a call may return in the place of a result. A refused call writes nothing. Where several
+/// apply the lowest is returned.
+#[derive(Clone, Copy, Debug, PartialEq, Eq, Hash)]
+#[non_exhaustive]
+pub enum Refusal {
+    /// 1: the plant's header or length is not valid.
+    PlantHeader,
+    /// 2: a label of the plant has a bit that means nothing.
+    PlantLabel,
+    /// 3: an arrow of the plant is out of range or out of order.
+    PlantArrow,
+    /// 4: the book's header or length is not valid, or is not one for the plant.
+    BookHeader,
+    /// 5: a row of the book is neither lost nor valid, or the count of kept states is not that of the rows.
+    BookRow,
+    /// 6: the mask given names a move that the plant does not have.
+    Mask,
+    /// 7: a buffer is too short.
+    Buffer,
+    /// 8: the state or the goal asked for is not in the book.
+    OutOfBook,
+    /// A number that this version of the wrapper does not know.
+    Other(u32),
+}
+
+/// The refusals by their number, from 1 on, with what was wrong, where, and what to do.
+const KNOWN: [(Refusal, &str); 8] = [
+    (
+        Refusal::PlantHeader,
+        "the plant's header is not valid or its length is not the one its header says (plant, bytes 0 to 15): lend \
+         exactly 16 + 2S + 6E bytes, with S 1 to 1024, U 1 to 32, N 1 to 8, E 0 to 8192 and the last number 0",
+    ),
+    (
+        Refusal::PlantLabel,
+        "a label has a bit above bit N (plant, labels from byte 16 on): set only bit 0 and the bits 1 to N",
+    ),
+    (
+        Refusal::PlantArrow,
+        "an arrow names a state or a move that is out of range, or the arrows do not strictly ascend (plant, arrows \
+         from byte 16 + 2S on): sort them by from, move and to, and leave out doubles",
+    ),
+    (
+        Refusal::BookHeader,
+        "the book's header is not valid, its length is not the one its header says, or it is a book for other counts \
+         of states, moves and goals than the plant's (book, bytes 0 to 15): lend a whole book that was written for \
+         this plant",
+    ),
+    (
+        Refusal::BookRow,
+        "a row is neither wholly lost nor has every wait at most 1023 and every move in the book's mask, or the count \
+         of kept states is not that of the rows (book, rows from byte 16 on): lend a book as it was written",
+    ),
+    (
+        Refusal::Mask,
+        "the mask has a bit for a move that the plant does not have (mask, bit U or above): name only moves 0 to U - 1",
+    ),
+    (
+        Refusal::Buffer,
+        "a buffer is too short (book buffer or drop buffer): lend at least 16 + 4SN bytes for the book and 2S for the \
+         states dropped",
+    ),
+    (
+        Refusal::OutOfBook,
+        "the state or the goal is not in the book (state, goal): ask for a state below S and a goal below N",
+    ),
+];
+
+impl Refusal {
+    /// The refusal with this number.
+    pub fn from_number(number: u32) -> Refusal {
+        known(number).map_or(Refusal::Other(number), |known| known.0)
+    }
+
+    /// The number of this refusal.
+    pub fn number(self) -> u32 {
+        match self {
+            Refusal::PlantHeader => 1,
+            Refusal::PlantLabel => 2,
+            Refusal::PlantArrow => 3,
+            Refusal::BookHeader => 4,
+            Refusal::BookRow => 5,
+            Refusal::Mask => 6,
+            Refusal::Buffer => 7,
+            Refusal::OutOfBook => 8,
+            Refusal::Other(number) => number,
+        }
+    }
+}
+
+/// The known refusal with this number, and what it means.
+fn known(number: u32) -> Option<&'static (Refusal, &'static str)> {
+    (number as usize).checked_sub(1).and_then(|at| KNOWN.get(at))
+}
+
+impl fmt::Display for Refusal {
+    fn fmt(&self, f: &mut fmt::Formatter<'_>) -> fmt::Result {
+        let number = self.number();
+        let text =
+            known(number).map_or("a number that this version does not know: update the wrapper", |known| known.1);
+        write!(f, "refused {number}: {text}")
+    }
+}
+
+impl std::error::Error for Refusal {}
+
+#[cfg(test)]
+mod tests {
+    use super::*;
+
+    #[test]
+    fn numbers_and_names_agree() {
+        for number in 0..20 {
+            let refusal = Refusal::from_number(number);
+            assert_eq!(refusal.number(), number);
+            assert_eq!(matches!(refusal, Refusal::Other(_)), !(1..=8).contains(&number));
+            assert!(refusal.to_string().starts_with(&format!("refused {number}: ")));
+        }
+    }
+}

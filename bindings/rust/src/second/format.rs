@@ -1,0 +1,170 @@
+//! The bytes of plants and books: what document 01 refuses with 1 to 5, and how a book is laid out.
+
+use super::{require, Table};
+use crate::Refusal;
+
+/// Marks both places of every entry of a lost state.
+pub const LOST: u16 = u16::MAX;
+
+/// The largest wait of a book.
+const LARGEST_WAIT: u16 = 1023;
+
+/// An arrow (transition): the move, made in the state `from`, may lead to the state `to`.
+#[derive(Clone, Copy, Debug, PartialEq, Eq, PartialOrd, Ord)]
+pub struct Arrow {
+    /// Where it begins.
+    pub from: u16,
+    /// The move that it belongs to.
+    pub action: u16,
+    /// Where it ends.
+    pub to: u16,
+}
+
+/// A plant that was read and found without fault.
+#[derive(Clone, Debug)]
+pub struct Plant {
+    /// S, the number of states.
+    pub states: usize,
+    /// U, the number of moves.
+    pub moves: usize,
+    /// N, the number of goals.
+    pub goals: usize,
+    /// A label for each state.
+    pub labels: Vec<u16>,
+    /// The arrows, by from, move and to.
+    pub arrows: Vec<Arrow>,
+}
+
+impl Plant {
+    /// Reads a plant; refuses with 1, 2 or 3.
+    pub fn read(bytes: &[u8]) -> Result<Plant, Refusal> {
+        let header = header(bytes).ok_or(Refusal::PlantHeader)?;
+        let [states, moves, goals, count, labels_at, arrows_at, length, last] = header.map(usize::from);
+        let counts = in_range(states, moves, goals) && count <= 8192;
+        let places = labels_at == 16 && arrows_at == 16 + 2 * states && length == 16 + 2 * states + 6 * count;
+        require(counts && places && last == 0 && bytes.len() == length, Refusal::PlantHeader)?;
+
+        let labels: Vec<u16> = numbers(&bytes[labels_at..arrows_at]).collect();
+        require(labels.iter().all(|&label| u32::from(label) >> (goals + 1) == 0), Refusal::PlantLabel)?;
+
+        let arrows: Vec<Arrow> = bytes[arrows_at..]
+            .chunks_exact(6)
+            .map(|arrow| Arrow { from: number(arrow, 0), action: number(arrow, 2), to: number(arrow, 4) })
+            .collect();
+        let known = |arrow: &Arrow| {
+            usize::from(arrow.from) < states && usize::from(arrow.action) < moves && usize::from(arrow.to) < states
+        };
+        let ascending = arrows.windows(2).all(|pair| pair[0] < pair[1]);
+        require(arrows.iter().all(known) && ascending, Refusal::PlantArrow)?;
+        Ok(Plant { states, moves, goals, labels, arrows })
+    }
+
+    /// Whether a mask names only moves that the plant has.
+    pub fn has_moves(&self, mask: u32) -> bool {
+        below(mask, self.moves)
+    }
+
+    /// How long the plant's books are.
+    pub fn book_length(&self) -> usize {
+        16 + 4 * self.states * self.goals
+    }
+
+    /// Whether the state is allowed.
+    pub fn is_allowed(&self, state: usize) -> bool {
+        self.labels[state] & 1 != 0
+    }
+
+    /// Whether the state is in the goal.
+    pub fn in_goal(&self, state: usize, goal: usize) -> bool {
+        self.labels[state] >> (1 + goal) & 1 != 0
+    }
+}
+
+/// A book that was read and found without fault.
+#[derive(Clone, Copy, Debug)]
+pub struct BookView<'a> {
+    /// S, the number of states.
+    pub states: usize,
+    /// N, the number of goals.
+    pub goals: usize,
+    /// The moves in service.
+    pub mask: u32,
+    rows: &'a [u8],
+}
+
+impl<'a> BookView<'a> {
+    /// Reads a book, which must have the counts of the plant if one is given; refuses with 4 or 5.
+    pub fn read(bytes: &'a [u8], plant: Option<&Plant>) -> Result<BookView<'a>, Refusal> {
+        let header = header(bytes).ok_or(Refusal::BookHeader)?;
+        let [states, moves, goals, kept, _, _, rows_at, length] = header.map(usize::from);
+        let mask = u32::from(header[4]) | u32::from(header[5]) << 16;
+        let places = rows_at == 16 && length == 16 + 4 * states * goals && bytes.len() == length;
+        let sound = in_range(states, moves, goals) && places && below(mask, moves);
+        let suits = plant.map_or(true, |plant| (plant.states, plant.moves, plant.goals) == (states, moves, goals));
+        require(sound && suits, Refusal::BookHeader)?;
+
+        let book = BookView { states, goals, mask, rows: &bytes[16..] };
+        let mut counted = 0;
+        for state in 0..states {
+            let row = || (0..goals).map(|goal| book.entry(state, goal));
+            if row().all(|entry| entry == (LOST, LOST)) {
+                continue;
+            }
+            require(row().all(|(wait, action)| wait <= LARGEST_WAIT && in_mask(mask, action)), Refusal::BookRow)?;
+            counted += 1;
+        }
+        require(counted == kept, Refusal::BookRow)?;
+        Ok(book)
+    }
+
+    /// The wait and the move of a state for a goal.
+    pub fn entry(&self, state: usize, goal: usize) -> (u16, u16) {
+        let at = 4 * (state * self.goals + goal);
+        (number(self.rows, at), number(self.rows, at + 2))
+    }
+
+    /// Whether the state is kept.
+    pub fn is_kept(&self, state: usize) -> bool {
+        self.entry(state, 0).0 != LOST
+    }
+}
+
+/// Fills `book`, which has the length of the plant's books.
+pub fn write_book(plant: &Plant, mask: u32, table: &Table, book: &mut [u8]) {
+    let kept = table.waits.iter().step_by(plant.goals).filter(|&&wait| wait != LOST).count();
+    let halves = [mask as u16, (mask >> 16) as u16];
+    let counts = [plant.states, plant.moves, plant.goals, kept].map(|count| count as u16);
+    let header = counts.into_iter().chain(halves).chain([16, book.len() as u16]);
+    let rows = table.waits.iter().zip(&table.moves).flat_map(|(&wait, &action)| [wait, action]);
+    for (place, value) in book.chunks_exact_mut(2).zip(header.chain(rows)) {
+        place.copy_from_slice(&value.to_le_bytes());
+    }
+}
+
+/// Whether the mask has the move.
+pub fn in_mask(mask: u32, action: u16) -> bool {
+    action < 32 && mask >> action & 1 != 0
+}
+
+fn in_range(states: usize, moves: usize, goals: usize) -> bool {
+    (1..=1024).contains(&states) && (1..=32).contains(&moves) && (1..=8).contains(&goals)
+}
+
+/// Whether all bits of the mask are below a number of moves.
+fn below(mask: u32, moves: usize) -> bool {
+    u64::from(mask) >> moves == 0
+}
+
+/// The eight numbers of a header, if there are as many bytes.
+fn header(bytes: &[u8]) -> Option<[u16; 8]> {
+    (bytes.len() >= 16).then(|| std::array::from_fn(|at| number(bytes, 2 * at)))
+}
+
+fn numbers(bytes: &[u8]) -> impl Iterator<Item = u16> + '_ {
+    bytes.chunks_exact(2).map(|pair| number(pair, 0))
+}
+
+/// The two-byte number at a place.
+fn number(bytes: &[u8], at: usize) -> u16 {
+    u16::from_le_bytes([bytes[at], bytes[at + 1]])
+}

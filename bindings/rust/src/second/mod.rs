@@ -1,0 +1,130 @@
+//! The independent check: solvers made from document 01 and the published algorithm alone, by other means than the
+//! proved library, with the same calls and byte for byte the same answers.
+//!
+//! - [`Brute`] looks for strategies and for the opponent's replies one by one, for tiny plants, and panics if the two
+//!   sides do not account for every state. It uses no fixed point.
+//! - [`Plain`] is the textbook's nested fixed point, by sweeps over all arrows. It is the speed baseline.
+//! - [`Fast`] strikes states out from a worklist, with the arrows indexed by the state they end in.
+//!
+//! They share the checks and the layout of the bytes ([`mod@format`]) and the frame of the calls in this file, and nothing
+//! of the solving: each turns a [`Plant`], the moves in service and the states it may use into a [`Table`].
+
+mod brute;
+mod fast;
+pub mod format;
+mod plain;
+
+pub use brute::{effort, Brute};
+pub use fast::Fast;
+pub use plain::Plain;
+
+use crate::calls::Calls;
+use crate::sys::{Advice, Answer, Part};
+use crate::Refusal;
+use format::{BookView, Plant, LOST};
+
+/// Waits and moves of all states, row by row with an entry per goal; [`LOST`] in both for a lost state.
+#[derive(Clone, Debug, PartialEq, Eq)]
+pub struct Table {
+    /// The least number of moves that forces the goal.
+    pub waits: Vec<u16>,
+    /// The move to make.
+    pub moves: Vec<u16>,
+}
+
+impl Table {
+    /// The table in which every state is lost.
+    pub fn lost(plant: &Plant) -> Table {
+        let entries = plant.states * plant.goals;
+        Table { waits: vec![LOST; entries], moves: vec![LOST; entries] }
+    }
+}
+
+/// A way to solve a plant.
+pub trait Solve {
+    /// A short name for tables and messages.
+    const NAME: &'static str;
+
+    /// The table for the moves of `mask` in service, with strategies that never leave the allowed states that `within`
+    /// holds.
+    fn solve(plant: &Plant, mask: u32, within: &[bool]) -> Table;
+}
+
+impl<S: Solve> Calls for S {
+    fn name(&self) -> &'static str {
+        S::NAME
+    }
+
+    fn make(&self, plant: &[u8], mask: u32, book: &mut [u8]) -> Answer {
+        make::<S>(plant, mask, book).unwrap_or_else(|refusal| Answer::refused(refusal.number()))
+    }
+
+    fn withdraw(&self, plant: &[u8], book: &[u8], mask: u32, out: &mut [u8], drops: &mut [u8]) -> Answer {
+        withdraw::<S>(plant, book, mask, out, drops).unwrap_or_else(|refusal| Answer::refused(refusal.number()))
+    }
+
+    fn consult(&self, book: &[u8], state: u32, goal: u32) -> Advice {
+        consult(book, state, goal).unwrap_or_else(|refusal| Advice::refused(refusal.number()))
+    }
+
+    fn row(&self, book: &[u8], state: u32) -> Part {
+        row(book, state).unwrap_or_else(|refusal| Part::refused(refusal.number()))
+    }
+}
+
+fn make<S: Solve>(plant: &[u8], mask: u32, book: &mut [u8]) -> Result<Answer, Refusal> {
+    let plant = Plant::read(plant)?;
+    let length = plant.book_length();
+    require(plant.has_moves(mask), Refusal::Mask)?;
+    require(book.len() >= length, Refusal::Buffer)?;
+    let table = S::solve(&plant, mask, &vec![true; plant.states]);
+    format::write_book(&plant, mask, &table, &mut book[..length]);
+    Ok(Answer { number: 0, length: length as u32, drops: 0 })
+}
+
+fn withdraw<S: Solve>(
+    plant: &[u8],
+    book: &[u8],
+    mask: u32,
+    out: &mut [u8],
+    drops: &mut [u8],
+) -> Result<Answer, Refusal> {
+    let plant = Plant::read(plant)?;
+    let old = BookView::read(book, Some(&plant))?;
+    let length = plant.book_length();
+    require(plant.has_moves(mask), Refusal::Mask)?;
+    require(out.len() >= length && drops.len() >= 2 * plant.states, Refusal::Buffer)?;
+    let kept: Vec<bool> = (0..plant.states).map(|state| old.is_kept(state)).collect();
+    let left = old.mask & !mask;
+    let table = S::solve(&plant, left, &kept);
+    format::write_book(&plant, left, &table, &mut out[..length]);
+    let dropped = (0..plant.states).filter(|&state| kept[state] && table.waits[state * plant.goals] == LOST);
+    let mut count = 0;
+    for (state, place) in dropped.zip(drops.chunks_exact_mut(2)) {
+        place.copy_from_slice(&(state as u16).to_le_bytes());
+        count += 1;
+    }
+    Ok(Answer { number: 0, length: length as u32, drops: count })
+}
+
+fn consult(book: &[u8], state: u32, goal: u32) -> Result<Advice, Refusal> {
+    let book = BookView::read(book, None)?;
+    require((state as usize) < book.states && (goal as usize) < book.goals, Refusal::OutOfBook)?;
+    if !book.is_kept(state as usize) {
+        return Ok(Advice { lost: 1, ..Advice::default() });
+    }
+    let (wait, action) = book.entry(state as usize, goal as usize);
+    let seek = if wait == 0 { (goal + 1) % book.goals as u32 } else { goal };
+    Ok(Advice { number: 0, lost: 0, action: action.into(), wait: wait.into(), seek })
+}
+
+fn row(book: &[u8], state: u32) -> Result<Part, Refusal> {
+    let book = BookView::read(book, None)?;
+    require((state as usize) < book.states, Refusal::OutOfBook)?;
+    let length = 4 * book.goals as u32;
+    Ok(Part { number: 0, start: 16 + length * state, length })
+}
+
+fn require(holds: bool, refusal: Refusal) -> Result<(), Refusal> {
+    holds.then_some(()).ok_or(refusal)
+}

@@ -1,0 +1,94 @@
+//! The C interface as it is declared in `include/planbook.h`: its answers, and with the feature `linked` its four
+//! functions. The functions are unsafe to call; [`crate::make_into`] and its neighbours are the safe way.
+//!
+//! A refused answer has its number and 0 in every other field, and so has a lost one beside its `lost`.
+
+/// What make and withdraw answer.
+#[repr(C)]
+#[derive(Clone, Copy, Debug, Default, PartialEq, Eq)]
+pub struct Answer {
+    /// 0, or the number of the refusal.
+    pub number: u32,
+    /// How many bytes of the book buffer are the book.
+    pub length: u32,
+    /// How many states the drop buffer lists. Always 0 for make.
+    pub drops: u32,
+}
+
+/// What consult answers.
+#[repr(C)]
+#[derive(Clone, Copy, Debug, Default, PartialEq, Eq)]
+pub struct Advice {
+    /// 0, or the number of the refusal.
+    pub number: u32,
+    /// 1 if the state is lost; all that follows is then 0.
+    pub lost: u32,
+    /// The move to make (`move` in C).
+    pub action: u32,
+    /// At most so many moves until the goal is met.
+    pub wait: u32,
+    /// The goal to seek after the move.
+    pub seek: u32,
+}
+
+/// What row answers: the place of the row in the book lent.
+#[repr(C)]
+#[derive(Clone, Copy, Debug, Default, PartialEq, Eq)]
+pub struct Part {
+    /// 0, or the number of the refusal.
+    pub number: u32,
+    /// Where the row begins in the book.
+    pub start: u32,
+    /// How many bytes it has; 0 exactly when refused.
+    pub length: u32,
+}
+
+macro_rules! refused {
+    ($($answer:ident),*) => {$(
+        impl $answer {
+            /// The answer of a call that is refused with this number.
+            pub fn refused(number: u32) -> $answer {
+                $answer { number, ..$answer::default() }
+            }
+        }
+    )*};
+}
+refused!(Answer, Advice, Part);
+
+#[cfg(feature = "linked")]
+extern "C" {
+    /// Writes the book of a plant with the moves of `mask` in service.
+    ///
+    /// # Safety
+    /// Each pointer is good for its length, to read (`plant`) or to write (`book`), and they do not overlap.
+    pub fn planbook_make(plant: *const u8, plant_len: usize, mask: u32, book: *mut u8, book_len: usize) -> Answer;
+
+    /// Writes the book with the moves of `mask` withdrawn, and the states dropped.
+    ///
+    /// # Safety
+    /// Each pointer is good for its length, to read (`plant`, `book`) or to write (`out`, `drops`), and those written do
+    /// not overlap with any other.
+    pub fn planbook_withdraw(
+        plant: *const u8,
+        plant_len: usize,
+        book: *const u8,
+        book_len: usize,
+        mask: u32,
+        out: *mut u8,
+        out_len: usize,
+        drops: *mut u8,
+        drops_len: usize,
+    ) -> Answer;
+
+    /// The move, the wait and the next goal for a state and the goal sought.
+    ///
+    /// # Safety
+    /// `book` is good to read for `book_len` bytes.
+    pub fn planbook_consult(book: *const u8, book_len: usize, state: u32, goal: u32) -> Advice;
+
+    /// The place of a state's row in the book.
+    ///
+    /// # Safety
+    /// `book` is good to read for `book_len` bytes.
+    pub fn planbook_row(book: *const u8, book_len: usize, state: u32) -> Part;
+}

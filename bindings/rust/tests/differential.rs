@@ -1,0 +1,53 @@
+//! The proved library against the worklist solver, byte for byte. Needs the archive.
+//!
+//! PLANBOOK_CALLS sets how many calls of each random kind are compared; the binary `soak` runs longer still.
+
+#![deny(warnings)]
+
+mod document;
+
+use planbook::calls::Linked;
+use planbook::compare::{rounds, Comparison};
+use planbook::plants::FAMILIES;
+use planbook::second::Fast;
+
+/// Where the seeds of the random rounds begin.
+const SEED: u64 = 1;
+
+#[test]
+fn document_01() {
+    document::marked_examples(&Linked);
+    document::further_examples(&Linked);
+    document::refusals(&Linked);
+}
+
+#[test]
+fn exhaustive_rounds() {
+    let mut comparison = Comparison::new(&Linked, &Fast);
+    for round in rounds::EXHAUSTIVE_ROUNDS {
+        round(&mut comparison);
+    }
+    println!("{}", comparison.summary());
+}
+
+#[test]
+fn random_rounds() {
+    let calls = std::env::var("PLANBOOK_CALLS").map_or(100_000, |word| word.parse().expect("a number of calls"));
+    for (name, round) in rounds::RANDOM_ROUNDS {
+        let mut comparison = Comparison::new(&Linked, &Fast);
+        let rounds = rounds::run(&mut comparison, round, SEED, calls);
+        println!("{name}, {rounds} rounds from seed {SEED}: {}", comparison.summary());
+    }
+}
+
+/// All families at their largest: made, and each move withdrawn in turn.
+#[test]
+fn families() {
+    let mut comparison = Comparison::new(&Linked, &Fast);
+    for family in FAMILIES {
+        for states in [1, 2, 31, 64, 300, 1024] {
+            rounds::each_move_in_turn(&mut comparison, &family.build(states, SEED));
+        }
+    }
+    println!("{}", comparison.summary());
+}

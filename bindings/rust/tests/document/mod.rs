@@ -1,0 +1,292 @@
+//! What document 01 fixes by hand: the marked examples M1 to M11, and the table of refusals with its edges. Written out
+//! from the document, and run on any planner.
+
+use planbook::calls::Calls;
+use planbook::plants::bytes_of;
+use planbook::sys::{Advice, Answer, Part};
+
+const LOST: u16 = u16::MAX;
+
+/// Strip plant P.
+const P: [u16; 36] = [
+    4, 3, 2, 8, 16, 24, 72, 0, // header
+    3, 1, 5, 0, // labels
+    0, 0, 1, /**/ 0, 1, 1, /**/ 0, 1, 2, /**/ 1, 0, 2, // arrows
+    1, 1, 3, /**/ 1, 2, 0, /**/ 2, 0, 0, /**/ 2, 2, 1,
+];
+
+/// P's rows with all moves in service (M1).
+const M1_ROWS: [u16; 16] = [0, 0, 2, 0, /**/ 1, 2, 1, 0, /**/ 1, 0, 0, 0, /**/ LOST, LOST, LOST, LOST];
+
+/// A book of P with these rows.
+fn book_of_p(kept: u16, mask: u16, rows: [u16; 16]) -> Vec<u8> {
+    bytes_of([4, 3, 2, kept, mask, 0, 16, 48].iter().chain(&rows))
+}
+
+fn made(planner: &dyn Calls, plant: &[u16], mask: u32, length: usize) -> Vec<u8> {
+    let mut book = vec![0xa5; length];
+    let answer = planner.make(&bytes_of(plant), mask, &mut book);
+    assert_eq!(answer, Answer { number: 0, length: length as u32, drops: 0 });
+    book
+}
+
+fn check_withdrawal(planner: &dyn Calls, book: &[u8], mask: u32, expected: &[u8], dropped: &[u16]) {
+    let (mut out, mut list) = ([0xa5; 50], [0xa5; 10]);
+    let answer = planner.withdraw(&bytes_of(&P), book, mask, &mut out, &mut list);
+    assert_eq!(answer, Answer { number: 0, length: 48, drops: dropped.len() as u32 });
+    assert_eq!(out[..48], *expected);
+    let mut written: Vec<u16> = list.chunks_exact(2).map(|pair| u16::from_le_bytes([pair[0], pair[1]])).collect();
+    let past = written.split_off(dropped.len());
+    written.sort_unstable();
+    assert_eq!(written, dropped);
+    assert_eq!((out[48], out[49]), (0xa5, 0xa5), "bytes past the book stay");
+    assert!(past.iter().all(|&number| number == 0xa5a5), "bytes past the list stay");
+}
+
+/// M1 to M11.
+pub fn marked_examples(planner: &dyn Calls) {
+    let m1 = book_of_p(3, 7, M1_ROWS);
+    assert_eq!(made(planner, &P, 7, 48), m1, "M1");
+
+    let mut m2_rows = M1_ROWS;
+    m2_rows[4..6].copy_from_slice(&[2, 0]);
+    check_withdrawal(planner, &m1, 4, &book_of_p(3, 3, m2_rows), &[]); // M2
+    check_withdrawal(planner, &m1, 1, &book_of_p(0, 6, [LOST; 16]), &[0, 1, 2]); // M3
+    check_withdrawal(planner, &m1, 2, &book_of_p(3, 5, M1_ROWS), &[]); // M4
+
+    // One state or two, one move, one goal: labels, then arrows, and the book's K and rows.
+    let small = |name: &str, plant: &[u16], book: &[u16]| {
+        assert_eq!(made(planner, plant, 1, 2 * book.len()), bytes_of(book), "{name}");
+    };
+    small("M5", &[1, 1, 1, 0, 16, 18, 18, 0, 3], &[1, 1, 1, 0, 1, 0, 16, 20, LOST, LOST]);
+    small("M6", &[1, 1, 1, 1, 16, 18, 24, 0, 3, 0, 0, 0], &[1, 1, 1, 1, 1, 0, 16, 20, 0, 0]);
+    small("M7", &[1, 1, 1, 1, 16, 18, 24, 0, 1, 0, 0, 0], &[1, 1, 1, 0, 1, 0, 16, 20, LOST, LOST]);
+    small(
+        "M8",
+        &[2, 1, 1, 3, 16, 20, 38, 0, 1, 3, 0, 0, 0, 0, 0, 1, 1, 0, 1],
+        &[2, 1, 1, 1, 1, 0, 16, 24, LOST, LOST, 0, 0],
+    );
+    small("M11", &[2, 1, 1, 1, 16, 20, 26, 0, 1, 3, 0, 0, 1], &[2, 1, 1, 0, 1, 0, 16, 24, LOST, LOST, LOST, LOST]);
+
+    let mut m9_rows = M1_ROWS;
+    m9_rows[4..8].fill(LOST);
+    check_withdrawal(planner, &book_of_p(2, 7, m9_rows), 0, &book_of_p(0, 7, [LOST; 16]), &[0, 2]); // M9
+
+    let advice = |action, wait, seek| Advice { number: 0, lost: 0, action, wait, seek };
+    assert_eq!(planner.consult(&m1, 0, 1), advice(0, 2, 1), "M10");
+    assert_eq!(planner.consult(&m1, 2, 1), advice(0, 0, 0), "M10");
+    assert_eq!(planner.consult(&m1, 1, 0), advice(2, 1, 0));
+    assert_eq!(planner.consult(&m1, 0, 0), advice(0, 0, 1));
+    assert_eq!(planner.consult(&m1, 3, 0), Advice { lost: 1, ..Advice::default() });
+    for state in 0..4 {
+        assert_eq!(planner.row(&m1, state), Part { number: 0, start: 16 + 8 * state, length: 8 });
+    }
+}
+
+/// What the rules fix beside the marked examples: a way through lost states is no way, the highest move of 32, and a
+/// state that the book handed in keeps though the plant does not allow it.
+pub fn further_examples(planner: &dyn Calls) {
+    let through_lost = [4, 2, 1, 4, 16, 24, 48, 0, 1, 3, 1, 3, 0, 0, 1, 0, 1, 2, 2, 0, 3, 3, 0, 3];
+    let rows = [2, 1, LOST, LOST, 1, 0, 0, 0];
+    let book: Vec<u16> = [4, 2, 1, 3, 3, 0, 16, 32].into_iter().chain(rows).collect();
+    assert_eq!(made(planner, &through_lost, 3, 32), bytes_of(&book));
+
+    let highest = [1, 32, 1, 1, 16, 18, 24, 0, 3, 0, 31, 0];
+    assert_eq!(made(planner, &highest, 1 << 31, 20), bytes_of(&[1, 32, 1, 1, 0, 0x8000, 16, 20, 0, 31]));
+    assert_eq!(made(planner, &highest, u32::MAX >> 1, 20), bytes_of(&[1, 32, 1, 0, LOST, 0x7fff, 16, 20, LOST, LOST]));
+
+    let mut rows = M1_ROWS;
+    rows[12..].fill(0);
+    check_withdrawal(planner, &book_of_p(4, 7, rows), 0, &book_of_p(3, 7, M1_ROWS), &[3]);
+}
+
+/// P's numbers with some changed: pairs of a place and a number.
+fn changed(numbers: &[u16], changes: &[(usize, u16)]) -> Vec<u8> {
+    let mut numbers = numbers.to_vec();
+    for &(at, number) in changes {
+        numbers[at] = number;
+    }
+    bytes_of(&numbers)
+}
+
+fn check_make(planner: &dyn Calls, plant: &[u8], mask: u32, length: usize, number: u32) {
+    let mut book = vec![0xa5; length];
+    let answer = planner.make(plant, mask, &mut book);
+    assert_eq!(answer.number, number, "make of {plant:?}");
+    if number != 0 {
+        assert_eq!(answer, Answer::refused(number));
+        assert!(book.iter().all(|&byte| byte == 0xa5), "a refusal writes nothing");
+    }
+}
+
+fn check_withdraw(planner: &dyn Calls, plant: &[u8], book: &[u8], mask: u32, lengths: [usize; 2], number: u32) {
+    let [mut out, mut list] = lengths.map(|length| vec![0xa5; length]);
+    let answer = planner.withdraw(plant, book, mask, &mut out, &mut list);
+    assert_eq!(answer.number, number, "withdraw from {book:?}, plant {plant:?}");
+    if number != 0 {
+        assert_eq!(answer, Answer::refused(number));
+        assert!(out.iter().chain(&list).all(|&byte| byte == 0xa5), "a refusal writes nothing");
+    }
+}
+
+/// Consult and row with this state and, for consult, goal. Row's number is that of consult with goal 0.
+fn check_lookup(planner: &dyn Calls, book: &[u8], state: u32, goal: u32, number: u32) {
+    let advice = planner.consult(book, state, goal);
+    assert_eq!(advice.number, number, "consult state {state} goal {goal} of {book:?}");
+    if number != 0 {
+        assert_eq!(advice, Advice::refused(number));
+    }
+    let part = planner.row(book, state);
+    assert_eq!(part.number, planner.consult(book, state, 0).number);
+    assert_eq!(part.length == 0, part.number != 0, "empty exactly when refused");
+}
+
+/// A plant of these counts with no arrow and every state allowed.
+fn bare(states: u16, moves: u16, goals: u16) -> Vec<u8> {
+    let length = 16 + 2 * states;
+    let header = [states, moves, goals, 0, 16, length, length, 0];
+    bytes_of(header.iter().chain(&vec![1; states.into()]))
+}
+
+/// One state with `count` arrows to other states by any move, in a plant of 300 states and 32 moves.
+fn with_arrows(count: u16) -> Vec<u8> {
+    let header = [300, 32, 1, count, 16, 616, 616 + 6 * count, 0];
+    let arrows = (0..count).flat_map(|number| [0, number / 300, number % 300]);
+    bytes_of(header.iter().chain(&vec![1; 300]).chain(&arrows.collect::<Vec<u16>>()))
+}
+
+/// Each line of the table of returned numbers, both edges of each limit, and the order of the lines.
+pub fn refusals(planner: &dyn Calls) {
+    let plant = bytes_of(&P);
+    let book_numbers: Vec<u16> = [4, 3, 2, 3, 7, 0, 16, 48].into_iter().chain(M1_ROWS).collect();
+    let book = bytes_of(&book_numbers);
+    let make = |plant: &[u8], number| check_make(planner, plant, 0, 1 << 15 | 16, number);
+    let withdraw = |book: &[u8], number| check_withdraw(planner, &plant, book, 4, [48, 8], number);
+
+    // 1: the plant's header and length.
+    make(&plant[..15], 1);
+    make(&[], 1);
+    make(&plant[..71], 1);
+    make(&[&plant[..], &[0]].concat(), 1);
+    for (at, &number) in P[..8].iter().enumerate() {
+        // 0 is right for the last number; U and N may be larger than the labels and arrows need.
+        make(&changed(&P, &[(at, 0)]), if at == 7 { 0 } else { 1 });
+        make(&changed(&P, &[(at, number + 1)]), if at == 1 || at == 2 { 0 } else { 1 });
+    }
+    for (states, moves, goals) in [(1025, 32, 8), (1024, 33, 8), (1024, 32, 9), (0, 1, 1), (1, 0, 1), (1, 1, 0)] {
+        make(&bare(states, moves, goals), 1);
+    }
+    for (states, moves, goals) in [(1024, 32, 8), (1, 1, 1)] {
+        make(&bare(states, moves, goals), 0);
+    }
+    make(&with_arrows(8192), 0);
+    make(&with_arrows(8193), 1);
+
+    // 2: a label's bit above bit N.
+    make(&changed(&P, &[(8, 7)]), 0);
+    make(&changed(&P, &[(8, 8)]), 2);
+    make(&changed(&P, &[(11, 0x8000)]), 2);
+    make(&changed(&P, &[(11, 6)]), 0); // goal bits of a state that is not allowed
+    for (label, number) in [(0x1ff, 0), (0x200, 2)] {
+        let mut plant = bare(1, 1, 8);
+        plant[16..18].copy_from_slice(&u16::to_le_bytes(label));
+        make(&plant, number);
+    }
+
+    // 3: arrows out of range or order.
+    for (at, number) in [(33, 4), (34, 3), (35, 4), (35, u16::MAX)] {
+        make(&changed(&P, &[(at, number)]), 3);
+    }
+    make(&changed(&P, &[(20, 1)]), 3); // (0,1,1) twice
+    make(&changed(&P, &[(20, 3)]), 0); // (0,1,3) after (0,1,1)
+    make(&changed(&P, &[(17, 3)]), 3); // (0,1,3) before (0,1,2)
+    make(&changed(&P, &[(30, 0)]), 3); // (0,0,0) late
+
+    // 4: the book's header and length, alone and beside the plant.
+    for short in [0, 15, 16, 47] {
+        withdraw(&book[..short], 4);
+        check_lookup(planner, &book[..short], 0, 0, 4);
+    }
+    withdraw(&[&book[..], &[0]].concat(), 4);
+    for (at, number) in [
+        (0, 3),
+        (0, 0),
+        (0, 1025),
+        (1, 0),
+        (1, 33),
+        (2, 1),
+        (2, 0),
+        (4, 15),
+        (5, 1),
+        (6, 15),
+        (6, 18),
+        (7, 47),
+        (7, 49),
+    ] {
+        let book = changed(&book_numbers, &[(at, number)]);
+        withdraw(&book, 4);
+        check_lookup(planner, &book, 0, 0, 4);
+    }
+    let four_moves = changed(&book_numbers, &[(1, 4)]);
+    withdraw(&four_moves, 4);
+    check_lookup(planner, &four_moves, 0, 0, 0);
+
+    // 5: rows and their count.
+    for changes in [
+        vec![(8, 1024)],
+        vec![(8, LOST)],
+        vec![(9, 3)],
+        vec![(9, 32)],
+        vec![(9, LOST)],
+        vec![(8, LOST), (9, LOST)],
+        vec![(20, 0)],
+        vec![(3, 2)],
+        vec![(3, 4)],
+        vec![(4, 3)], // move 2 is listed and not in the mask
+        vec![(20, 0), (21, 0), (22, 0), (23, 0)],
+    ] {
+        let book = changed(&book_numbers, &changes);
+        withdraw(&book, 5);
+        check_lookup(planner, &book, 3, 1, 5);
+    }
+    withdraw(&changed(&book_numbers, &[(8, 1023)]), 0);
+    withdraw(&changed(&book_numbers, &[(20, 0), (21, 0), (22, 0), (23, 0), (3, 4)]), 0);
+
+    // 6: the mask given.
+    for (mask, number) in [(7, 0), (8, 6), (15, 6), (1 << 31, 6), (0, 0)] {
+        check_make(planner, &plant, mask, 48, number);
+        check_withdraw(planner, &plant, &book, mask, [48, 8], number);
+    }
+    check_make(planner, &bare(1, 32, 1), u32::MAX, 20, 0);
+    check_make(planner, &bare(1, 31, 1), u32::MAX, 20, 6);
+
+    // 7: the buffers.
+    for (length, number) in [(48, 0), (47, 7), (0, 7), (49, 0)] {
+        check_make(planner, &plant, 7, length, number);
+        check_withdraw(planner, &plant, &book, 0, [length, 8], number);
+    }
+    for (length, number) in [(8, 0), (7, 7), (0, 7), (9, 0)] {
+        check_withdraw(planner, &plant, &book, 0, [48, length], number);
+    }
+
+    // 8: the state and the goal asked for.
+    for (state, goal, number) in [(3, 1, 0), (4, 1, 8), (3, 2, 8), (u32::MAX, 0, 8), (0, u32::MAX, 8), (65536, 0, 8)] {
+        check_lookup(planner, &book, state, goal, number);
+    }
+
+    // The lowest that applies: each fault added to all those after it.
+    let mut faulty_plant = P.to_vec();
+    let mut faulty_book = book_numbers;
+    check_withdraw(planner, &plant, &book, 8, [47, 8], 6);
+    faulty_book[8] = 1024;
+    check_withdraw(planner, &plant, &bytes_of(&faulty_book), 8, [47, 8], 5);
+    check_lookup(planner, &bytes_of(&faulty_book), 4, 2, 5);
+    faulty_book[6] = 15;
+    check_withdraw(planner, &plant, &bytes_of(&faulty_book), 8, [47, 8], 4);
+    check_lookup(planner, &bytes_of(&faulty_book), 4, 2, 4);
+    for (at, number, refusal) in [(33, 4, 3), (8, 8, 2), (7, 1, 1)] {
+        faulty_plant[at] = number;
+        check_withdraw(planner, &bytes_of(&faulty_plant), &bytes_of(&faulty_book), 8, [47, 8], refusal);
+        check_make(planner, &bytes_of(&faulty_plant), 8, 47, refusal);
+    }
+}

@@ -1,0 +1,130 @@
+//! The second solvers against document 01 and against each other: brute force, sweeps and worklist. Needs no archive.
+
+#![deny(warnings)]
+
+mod document;
+
+use planbook::calls::Calls;
+use planbook::compare::{rounds, Comparison};
+use planbook::plants::{self, Random, FAMILIES};
+use planbook::second::format::Plant;
+use planbook::second::{effort, Brute, Fast, Plain};
+
+#[test]
+fn marked_examples() {
+    for planner in [&Brute as &dyn Calls, &Plain, &Fast] {
+        document::marked_examples(planner);
+        document::further_examples(planner);
+    }
+}
+
+/// Every generated plant is one, and they reach the edges of every range.
+#[test]
+fn generated_plants_are_accepted() {
+    for family in FAMILIES {
+        for states in 1..=1024 {
+            let plant = Plant::read(&family.build(states, 5).bytes()).expect("a family's plant");
+            assert_eq!(plant.states, usize::from(states));
+        }
+    }
+    let (mut least, mut most) = ([usize::MAX; 4], [0; 4]);
+    for seed in 0..4_000 {
+        let plant = Plant::read(&plants::any_size(&mut Random::new(seed)).bytes()).expect("any size");
+        let counts = [plant.states, plant.moves, plant.goals, plant.arrows.len()];
+        for (at, count) in counts.into_iter().enumerate() {
+            least[at] = least[at].min(count);
+            most[at] = most[at].max(count);
+        }
+    }
+    println!("S, U, N and E from {least:?} to {most:?}");
+    assert_eq!((least, &most[..3]), ([1, 1, 1, 0], &[1024, 32, 8][..]));
+    assert!(most[3] > 7_500);
+}
+
+#[test]
+fn refusals() {
+    for planner in [&Plain as &dyn Calls, &Fast] {
+        document::refusals(planner);
+    }
+}
+
+/// Tiny plants, with every mask, and every withdrawal from what is made: brute force, sweeps and worklist agree.
+#[test]
+fn brute_force_agrees_on_tiny_plants() {
+    let mut brute = Comparison::new(&Brute, &Fast);
+    let mut plain = Comparison::new(&Plain, &Fast);
+    let (mut tried, mut kept, mut lost, mut long) = (0, 0, 0, 0);
+    for seed in 0..30_000 {
+        let model = plants::tiny(&mut Random::new(seed));
+        let plant = model.bytes();
+        let every_move = model.every_move();
+        if effort(&Plant::read(&plant).expect("a tiny plant"), every_move) > 3_000.0 {
+            continue;
+        }
+        tried += 1;
+        let book_length = 16 + 4 * model.labels.len() * usize::from(model.goals);
+        let lengths = [book_length, 2 * model.labels.len()];
+        for made in 0..=every_move {
+            let (_, book) = brute.make(&plant, made, book_length);
+            plain.make(&plant, made, book_length);
+            let book_kept = usize::from(book[6]);
+            kept += book_kept;
+            lost += model.labels.len() - book_kept;
+            long += book[16..].chunks_exact(4).filter(|entry| (2..5).contains(&entry[0])).count();
+            if book_kept != 0 {
+                for withdrawn in 1..=every_move {
+                    brute.withdraw(&plant, &book, withdrawn, lengths);
+                    plain.withdraw(&plant, &book, withdrawn, lengths);
+                }
+            }
+        }
+    }
+    println!("{tried} tiny plants: {}; {}", brute.summary(), plain.summary());
+    println!("made {kept} kept and {lost} lost states, {long} waits above 1");
+    assert!(tried > 20_000 && kept > 30_000 && lost > 30_000 && long > 3_000);
+}
+
+/// Withdrawals from books that nobody made, by brute force.
+#[test]
+fn brute_force_agrees_on_invented_books() {
+    let mut comparison = Comparison::new(&Brute, &Fast);
+    let mut tried = 0;
+    for seed in 0..20_000 {
+        let random = &mut Random::new(seed);
+        let model = plants::tiny(random);
+        let plant = model.bytes();
+        if effort(&Plant::read(&plant).expect("a tiny plant"), model.every_move()) <= 1_500.0 {
+            rounds::withdrawals_from_invented(&mut comparison, &model, random);
+            tried += 1;
+        }
+    }
+    println!("{tried} tiny plants: {}", comparison.summary());
+    assert!(tried > 3_000);
+}
+
+/// All families at all sizes: sweeps and worklist agree on makes, and on withdrawals of one move after another.
+#[test]
+fn sweeps_and_worklist_agree_on_families() {
+    let mut comparison = Comparison::new(&Plain, &Fast);
+    for family in FAMILIES {
+        for states in [1, 2, 3, 4, 7, 16, 33, 64, 150, 400, 1024] {
+            rounds::each_move_in_turn(&mut comparison, &family.build(states, 1));
+        }
+    }
+    println!("{}", comparison.summary());
+}
+
+/// The rounds that the proved library is put through, with sweeps in its place.
+#[test]
+fn sweeps_and_worklist_agree_in_every_round() {
+    let mut comparison = Comparison::new(&Plain, &Fast);
+    for round in rounds::EXHAUSTIVE_ROUNDS {
+        round(&mut comparison);
+    }
+    for (name, round) in rounds::RANDOM_ROUNDS {
+        let (seed, calls) = (7_000_000, 20_000);
+        let rounds = rounds::run(&mut comparison, round, seed, calls);
+        println!("{name}: {rounds} rounds from seed {seed}");
+    }
+    println!("{}", comparison.summary());
+}

@@ -1,0 +1,65 @@
+//! The safe wrapper as a caller sees it. Needs the archive.
+
+#![deny(warnings)]
+
+use planbook::{consult, make_into, plants, row, withdraw_into, Advice, Book, Entry, Refusal, Withdrawn};
+
+#[test]
+fn a_book_owns_its_bytes_and_the_plant() {
+    let plant = plants::strip().bytes();
+    let book = Book::make(&plant, 7).expect("P is a plant");
+    assert_eq!(book.plant(), plant);
+    assert_eq!((book.states(), book.moves(), book.goals()), (4, 3, 2));
+    assert_eq!((book.kept_count(), book.mask(), book.bytes().len()), (3, 7, 48));
+    assert_eq!(book.row(2), Ok(&book.bytes()[32..40]));
+    assert_eq!(book.consult(2, 1), Ok(Advice::Move { action: 0, wait: 0, seek: 0 }));
+    assert_eq!(book.consult(3, 1), Ok(Advice::Lost));
+    let rows: Vec<Option<Vec<Entry>>> = book.rows().map(|row| row.map(Iterator::collect)).collect();
+    let entry = |wait, action| Entry { wait, action };
+    assert_eq!(rows[0], Some(vec![entry(0, 0), entry(2, 0)]));
+    assert_eq!(rows[1], Some(vec![entry(1, 2), entry(1, 0)]));
+    assert_eq!(rows[3], None);
+}
+
+#[test]
+fn withdrawals_in_turn_and_at_once_agree() {
+    let model = plants::Family::Random.build(200, 3);
+    let plant = model.bytes();
+    let made = Book::make(&plant, model.every_move()).expect("a plant");
+    let (one, first) = made.withdraw(1).expect("move 0 exists");
+    let (two, second) = one.withdraw(2).expect("move 1 exists");
+    let (both, dropped) = made.withdraw(3).expect("moves 0 and 1 exist");
+    assert_eq!(two, both);
+    assert_eq!(two, Book::make(&plant, model.every_move() & !3).expect("a plant"));
+    let mut joined = [first, second].concat();
+    joined.sort_unstable();
+    assert_eq!(joined, dropped);
+}
+
+#[test]
+fn every_refusal_has_its_name() {
+    let plant = plants::strip().bytes();
+    let changed = |bytes: &[u8], at: usize, value: u8| {
+        let mut bytes = bytes.to_vec();
+        bytes[at] = value;
+        bytes
+    };
+    let made = |plant: &[u8], mask| Book::make(plant, mask).map(|book| book.kept_count());
+    assert_eq!(made(&plant[..15], 7), Err(Refusal::PlantHeader));
+    assert_eq!(made(&changed(&plant, 16, 8), 7), Err(Refusal::PlantLabel));
+    assert_eq!(made(&changed(&plant, 70, 4), 7), Err(Refusal::PlantArrow));
+    assert_eq!(made(&plant, 8), Err(Refusal::Mask));
+
+    let mut book = [0; 48];
+    assert_eq!(make_into(&plant, 7, &mut book[..47]), Err(Refusal::Buffer));
+    assert_eq!(make_into(&plant, 7, &mut book), Ok(48));
+    assert_eq!(consult(&book[..15], 0, 0), Err(Refusal::BookHeader));
+    assert_eq!(consult(&changed(&book, 6, 2), 0, 0), Err(Refusal::BookRow));
+    assert_eq!(consult(&book, 0, 2), Err(Refusal::OutOfBook));
+    assert_eq!(row(&book, 4), Err(Refusal::OutOfBook));
+    assert_eq!(row(&[], 0), Err(Refusal::BookHeader));
+
+    let (mut out, mut drops) = ([0; 48], [0; 8]);
+    assert_eq!(withdraw_into(&plant, &book, 4, &mut out, &mut drops[..7]), Err(Refusal::Buffer));
+    assert_eq!(withdraw_into(&plant, &book, 4, &mut out, &mut drops), Ok(Withdrawn { length: 48, drops: 0 }));
+}

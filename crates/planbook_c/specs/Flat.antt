@@ -1,0 +1,34 @@
+-- The answers of the C interface, as structs of 32-bit numbers, and what they say of the planner's definitions.
+use mathlib.Core.Path.{_≡_}
+use mathlib.Core.Bool.{Bool, _&&_}
+use mathlib.Core.List.{List}
+use Prim.Native.Nat.{ℕ}
+use lib.ListN.{length}
+use Rattle.statements.specs.Sets.{pick}
+use Rattle.statements.specs.Books.{isLost, waitAt, moveAt, nextGoal}
+use Rattle.statements.specs.Calls.{consultFault, rowPart}
+use Rattle.books.specs.Says.{accepted, keeps, rowStart}
+use Rattle.books.specs.declared.Answer as planner
+use Rattle.planbook_c.specs.declared.Answer.{Answer}
+use Rattle.planbook_c.specs.declared.Advice.{Advice}
+use Rattle.planbook_c.specs.declared.Part.{Part}
+
+-- an answer of make or withdraw with the planner's own type
+abbrev pub plain : Answer → planner.Answer
+plain r = record { number = r .number; length = r .length; drops = r .drops }
+
+-- consulting a book b for a state x and the goal i sought: a refusal's number or 0; 1 for a lost state; or the move, the
+-- wait and the goal to seek next; every field that is not given is 0
+pub record AdviceSays (b : List ℕ) (x i : ℕ) (r : Advice) : Type 0 where
+  pub number : r .number ≡ consultFault b x i
+  pub lost : r .lost ≡ pick (accepted b x i && isLost b x) 1 0
+  pub action : r .action ≡ pick (keeps b x i) (moveAt b x i) 0
+  pub wait : r .wait ≡ pick (keeps b x i) (waitAt b x i) 0
+  pub seek : r .seek ≡ pick (keeps b x i) (nextGoal b x i) 0
+
+-- the row of a state x in a book b: a refusal's number or 0, where in the book it starts and how long it is; 0 and 0
+-- when refused
+pub record PartSays (b : List ℕ) (x : ℕ) (r : Part) : Type 0 where
+  pub number : r .number ≡ consultFault b x 0
+  pub start : r .start ≡ rowStart b x
+  pub long : r .length ≡ length (rowPart b x)

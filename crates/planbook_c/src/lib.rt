@@ -1,0 +1,111 @@
+// The calls for C and Rust: a lent slice is a pointer and a length, an answer is a struct of 32-bit numbers.
+// include/planbook.h says the same in C.
+ghost use mathlib.Core.Path.{_≡_};
+ghost use mathlib.Core.Bool.{Bool};
+ghost use Rattle.statements.specs.Sets.{pick};
+ghost use Rattle.books.specs.Says.{MakeSays, WithdrawSays};
+ghost use Rattle.planbook_c.specs.Flat.{plain, AdviceSays, PartSays};
+
+// What make and withdraw answer: a refusal's number or 0, the book's length, the number of states dropped.
+#[repr(C)]
+pub struct Answer {
+    pub number: u32,
+    pub length: u32,
+    pub drops: u32,
+}
+
+// What consult answers: a refusal's number or 0, 1 for a lost state, or the move, the wait and the goal to seek next.
+#[repr(C)]
+pub struct Advice {
+    pub number: u32,
+    pub lost: u32,
+    pub action: u32,
+    pub wait: u32,
+    pub seek: u32,
+}
+
+// What row answers: a refusal's number or 0, and where in the book lent the row starts and how long it is.
+#[repr(C)]
+pub struct Part {
+    pub number: u32,
+    pub start: u32,
+    pub length: u32,
+}
+
+// The planner's answer as a struct of 32-bit numbers.
+fn flat(r: books::Answer) -> Answer
+    ensures { λ f. ⌜ plain f ≡ r ⌝ }
+{
+    Answer {
+        number: r.number as u32,
+        length: r.length,
+        drops: r.drops,
+    }
+}
+
+// 1 for true, 0 for false.
+fn one(b: bool) -> u32
+    ensures { λ n. ⌜ n ≡ pick b 1 0 ⌝ }
+{
+    if b { 1 } else { 0 }
+}
+
+// Takes a plant, a mask and a book buffer. Writes the book and returns its length.
+#[no_mangle]
+pub extern "C" fn planbook_make(plant: &[u8], mask: u32, book: &mut [u8]) -> Answer
+    ensures { λ r. ⌜ MakeSays (now (plant .entry)) mask (now (book .entry)) (now (book .exit)) (plain r) ⌝ }
+{
+    flat(books::make_book(plant, mask, book))
+}
+
+// Takes a plant, a book, a mask of moves to withdraw, a book buffer and a drop buffer. Writes the book, and each state
+// kept before and lost now; returns the book's length and the number dropped.
+#[no_mangle]
+pub extern "C" fn planbook_withdraw(
+    plant: &[u8],
+    book: &[u8],
+    mask: u32,
+    out: &mut [u8],
+    drops: &mut [u8],
+) -> Answer
+    ensures { λ r. ⌜ WithdrawSays (now (plant .entry)) (now (book .entry)) mask (now (out .entry)) (now (out .exit)) (now (drops .entry)) (now (drops .exit)) (plain r) ⌝ }
+{
+    flat(books::withdraw_moves(plant, book, mask, out, drops))
+}
+
+// Takes a book, a state and the goal sought. Answers lost, or the move, the wait and the goal to seek next.
+#[no_mangle]
+pub extern "C" fn planbook_consult(book: &[u8], state: u32, goal: u32) -> Advice
+    ensures { λ r. ⌜ AdviceSays (now (book .entry)) state goal r ⌝ }
+{
+    let r = books::consult_book(book, state, goal);
+    Advice {
+        number: r.number as u32,
+        lost: one(r.lost),
+        action: r.action as u32,
+        wait: r.wait as u32,
+        seek: r.seek as u32,
+    }
+}
+
+// Takes a book and a state and tells where in the book that state's row stands.
+#[no_mangle]
+pub extern "C" fn planbook_row(book: &[u8], state: u32) -> Part
+    ensures { λ r. ⌜ PartSays (now (book .entry)) state r ⌝ }
+{
+    let number = books::consult_book(book, state, 0).number;
+    if number != 0 {
+        return Part {
+            number: number as u32,
+            start: 0,
+            length: 0,
+        };
+    }
+    let start = format::book::entry_place(book, state, 0);
+    let goals = format::word::number(book, 2);
+    Part {
+        number: 0,
+        start: start as u32,
+        length: 4 * (goals as u32),
+    }
+}

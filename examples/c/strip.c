@@ -1,0 +1,48 @@
+/* Strip plant P of the request: makes its book, withdraws move 2, and asks what to do in each state for goal 0. */
+#include <stdio.h>
+
+#include "planbook.h"
+
+static uint8_t plant[72];
+
+/* Writes 16-bit numbers as bytes, the low byte first. */
+static void pack(uint8_t *bytes, const uint16_t *numbers, size_t count) {
+    for (size_t i = 0; i < count; i++) {
+        bytes[2 * i] = (uint8_t)(numbers[i] % 256);
+        bytes[2 * i + 1] = (uint8_t)(numbers[i] / 256);
+    }
+}
+
+int main(void) {
+    static const uint16_t numbers[36] = {
+        4, 3, 2, 8, 16, 24, 72, 0, /* header: S, U, N, E, labels at, arrows at, length, 0 */
+        3, 1, 5, 0,                /* labels: bit 0 allowed, bit 1 + i in goal i */
+        0, 0, 1, 0, 1, 1, 0, 1, 2, /* arrows: from, move, to */
+        1, 0, 2, 1, 1, 3, 1, 2, 0, 2, 0, 0, 2, 2, 1,
+    };
+    uint8_t made[48], patched[48], drops[8];
+    pack(plant, numbers, 36);
+
+    planbook_answer answer = planbook_make(plant, sizeof plant, 7, made, sizeof made);
+    if (answer.number != 0) {
+        printf("make refused %u\n", (unsigned)answer.number);
+        return 1;
+    }
+    answer = planbook_withdraw(plant, sizeof plant, made, answer.length, 4, patched, sizeof patched, drops, sizeof drops);
+    if (answer.number != 0) {
+        printf("withdraw refused %u\n", (unsigned)answer.number);
+        return 1;
+    }
+    printf("withdrew move 2: %u bytes, %u dropped\n", (unsigned)answer.length, (unsigned)answer.drops);
+    for (uint32_t state = 0; state < 4; state++) {
+        planbook_advice advice = planbook_consult(patched, answer.length, state, 0);
+        planbook_part row = planbook_row(patched, answer.length, state);
+        if (advice.lost) {
+            printf("state %u: lost (row at %u)\n", (unsigned)state, (unsigned)row.start);
+        } else {
+            printf("state %u: move %u, wait %u, seek %u (row at %u, %u bytes)\n", (unsigned)state, (unsigned)advice.move,
+                   (unsigned)advice.wait, (unsigned)advice.seek, (unsigned)row.start, (unsigned)row.length);
+        }
+    }
+    return planbook_consult(patched, answer.length, 4, 0).number == 8 ? 0 : 1;
+}

@@ -1,0 +1,85 @@
+/*
+ * planbook: control books for a strip line with moves withdrawn.
+ *
+ * Link target/staticlib/libplanbook_c.a, made by `rt staticlib planbook_c`. There is no global state, no heap and no
+ * thread: every call works on the memory it is lent and on less than 256 KiB of stack. Any bytes may be handed in.
+ *
+ * Plants and books are byte strings; docs/FORMATS.md describes them. Every call returns a `number`: 0 when it was
+ * accepted, otherwise the lowest that applies, and then every other field is 0 and no byte was written:
+ *
+ *   1  the plant is under 16 bytes, a count is out of range (S 1 to 1,024, U 1 to 32, N 1 to 8, E 0 to 8,192), an
+ *      offset, the length or the last header number is wrong, or plant_len differs from the length
+ *   2  a label has a bit above bit N
+ *   3  an arrow's state or move is out of range, or the arrows do not strictly ascend
+ *   4  the book is under 16 bytes, its S, U or N is out of range, an offset or the length is wrong, its mask has a bit
+ *      at U or above, or book_len differs from the length; in withdraw also S, U or N unlike the plant's
+ *   5  a row is neither wholly lost nor with every wait at most 1,023 and every move in the book's mask, or K is not
+ *      the number of rows that are not lost
+ *   6  the mask given has a bit at U or above
+ *   7  the book buffer is under 16 + 4SN bytes, or the drop buffer under 2S
+ *   8  the state is not below S, or the goal not below N
+ *
+ * Buffers must not overlap: neither each other nor what is lent for reading. A buffer that is lent for writing keeps
+ * every byte past what the call writes. A pointer may be null only where its length is 0.
+ */
+#ifndef PLANBOOK_H
+#define PLANBOOK_H
+
+#include <stddef.h>
+#include <stdint.h>
+
+#ifdef __cplusplus
+extern "C" {
+#endif
+
+/* The longest plant and the longest book, and what a drop buffer needs at most. */
+#define PLANBOOK_PLANT_MAX 51216u
+#define PLANBOOK_BOOK_MAX 32784u
+#define PLANBOOK_DROPS_MAX 2048u
+
+/* What make and withdraw answer. */
+typedef struct {
+    uint32_t number; /* 0, or why it was refused */
+    uint32_t length; /* bytes of the book written, from the buffer's first byte on */
+    uint32_t drops;  /* states dropped, two bytes each in the drop buffer; 0 in make */
+} planbook_answer;
+
+/* What consult answers. */
+typedef struct {
+    uint32_t number; /* 0, or why it was refused */
+    uint32_t lost;   /* 1 when the state is lost; the fields below are then 0 */
+    uint32_t move;   /* the move to make, below U */
+    uint32_t wait;   /* the most moves it can take to the goal sought; 0 in the goal */
+    uint32_t seek;   /* the goal to seek next: the same one, or at wait 0 the next, after the last the first */
+} planbook_advice;
+
+/* What row answers: a part of the book lent. */
+typedef struct {
+    uint32_t number; /* 0, or why it was refused */
+    uint32_t start;  /* the row's first byte in the book */
+    uint32_t length; /* its length: 4 bytes for each goal, wait then move, two bytes each; 0 only when refused */
+} planbook_part;
+
+/* Makes the book of a plant with the moves of a mask in service (bit u is move u). Refusals 1, 2, 3, 6, 7. */
+planbook_answer planbook_make(const uint8_t *plant, size_t plant_len, uint32_t mask, uint8_t *book, size_t book_len);
+
+/*
+ * Withdraws the moves of a mask from a book and writes the new book to out. The kept states are those from which a
+ * strategy wins with the remaining moves without leaving states kept in the book handed in. Each state kept before and
+ * lost now is written to drops, once, as a two-byte number, the low byte first; their order is not promised.
+ * Refusals 1 to 7.
+ */
+planbook_answer planbook_withdraw(const uint8_t *plant, size_t plant_len, const uint8_t *book, size_t book_len,
+                                  uint32_t mask, uint8_t *out, size_t out_len, uint8_t *drops, size_t drops_len);
+
+/* What to do in a state when a goal is sought. Refusals 4, 5, 8. */
+planbook_advice planbook_consult(const uint8_t *book, size_t book_len, uint32_t state, uint32_t goal);
+
+/* Where a state's row stands in the book lent. Refusals 4, 5, 8 (the state alone). */
+planbook_part planbook_row(const uint8_t *book, size_t book_len, uint32_t state);
+
+#ifdef __cplusplus
+}
+#endif
+
+#endif

@@ -1,0 +1,58 @@
+/*
+ * How much stack the calls take: make, withdraw, consult and row run on a stack of their own that is painted first, and
+ * what they overwrote is counted. Prints the figure; fails at 256 KiB or more. The plant is the largest there is.
+ */
+#include <stdio.h>
+#include <string.h>
+#include <ucontext.h>
+
+#include "planbook.h"
+
+enum { ROOM = 1 << 20, PAINT = 0xA5, STATES = 1024, ARROWS = 8192 };
+
+static uint8_t stack[ROOM], plant[PLANBOOK_PLANT_MAX], book[PLANBOOK_BOOK_MAX], out[PLANBOOK_BOOK_MAX];
+static uint8_t drops[PLANBOOK_DROPS_MAX];
+static ucontext_t main_context, call_context;
+static unsigned refusals;
+
+static void put(size_t at, unsigned v) {
+    plant[at] = (uint8_t)(v % 256);
+    plant[at + 1] = (uint8_t)(v / 256);
+}
+
+/* 1,024 states, 32 moves, 8 goals, 8,192 arrows: from each state eight moves, each to the next state. */
+static void build(void) {
+    unsigned header[8] = {STATES, 32, 8, ARROWS, 16, 16 + 2 * STATES, 16 + 2 * STATES + 6 * ARROWS, 0};
+    for (size_t i = 0; i < 8; i++) put(2 * i, header[i]);
+    for (size_t x = 0; x < STATES; x++) put(16 + 2 * x, x == 0 ? 0x1FF : 1);
+    for (size_t k = 0; k < ARROWS; k++) {
+        size_t at = 16 + 2 * STATES + 6 * k;
+        put(at, (unsigned)(k / 8));
+        put(at + 2, (unsigned)(k % 8));
+        put(at + 4, (unsigned)((k / 8 + 1) % STATES));
+    }
+}
+
+static void calls(void) {
+    planbook_answer made = planbook_make(plant, sizeof plant, 0xFFFFFFFFu, book, sizeof book);
+    planbook_answer gone =
+        planbook_withdraw(plant, sizeof plant, book, made.length, 1, out, sizeof out, drops, sizeof drops);
+    refusals += made.number + gone.number;
+    refusals += planbook_consult(out, gone.length, 1023, 7).number + planbook_row(out, gone.length, 1023).number;
+}
+
+int main(void) {
+    build();
+    memset(stack, PAINT, sizeof stack);
+    getcontext(&call_context);
+    call_context.uc_stack.ss_sp = stack;
+    call_context.uc_stack.ss_size = sizeof stack;
+    call_context.uc_link = &main_context;
+    makecontext(&call_context, calls, 0);
+    swapcontext(&main_context, &call_context);
+    size_t untouched = 0;
+    while (untouched < sizeof stack && stack[untouched] == PAINT) untouched++;
+    size_t used = sizeof stack - untouched;
+    printf("stack: %zu bytes\n", used);
+    return refusals == 0 && used < 256 * 1024 ? 0 : 1;
+}
