@@ -19,6 +19,9 @@ const SEED: u64 = 1;
 /// Runs of one call go on until they took so long in all, in nanoseconds, but are at least three.
 const ENOUGH: u64 = 30_000_000;
 
+/// A run repeats the call until it takes at least so long, in nanoseconds: the clock's steps are then far below it.
+const RUN: u64 = 500_000;
+
 fn main() {
     #[cfg(feature = "linked")]
     let planners: Vec<&dyn Calls> = vec![&planbook::calls::Linked, &Plain, &Fast];
@@ -77,19 +80,25 @@ fn number(bytes: &[u8], at: usize) -> u16 {
     u16::from_le_bytes([bytes[at], bytes[at + 1]])
 }
 
-/// The least CPU time of several runs, in nanoseconds.
-fn least(mut run: impl FnMut()) -> f64 {
-    let mut least = u64::MAX;
-    let (mut runs, mut total) = (0, 0);
+/// The least CPU time of a call over several runs, in nanoseconds.
+fn least(mut call: impl FnMut()) -> f64 {
+    let mut least = f64::MAX;
+    let (mut calls, mut runs, mut total) = (1, 0, 0);
     while runs < 3 || total < ENOUGH {
         let start = cpu_time();
-        run();
+        for _ in 0..calls {
+            call();
+        }
         let time = cpu_time() - start;
-        least = least.min(time);
         total += time;
-        runs += 1;
+        if time < RUN {
+            calls *= 2;
+        } else {
+            least = least.min(time as f64 / f64::from(calls));
+            runs += 1;
+        }
     }
-    least as f64
+    least
 }
 
 /// The CPU time of this thread, in nanoseconds.
