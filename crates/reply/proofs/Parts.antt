@@ -1,0 +1,78 @@
+-- Where the plant ends in the input, and the answer case by case: a refused plant, bad masks, good masks.
+-- Assumes nothing.
+use mathlib.Core.Path.{_≡_, refl, sym, ap, _∙_}
+use mathlib.Core.Bool.{true, false}
+use mathlib.Core.List.{List, [], _∷_}
+use Prim.Native.Nat.{ℕ, zero, suc, _-_, _≤_, _<_}
+use native.Mathlib.Nat.{le-refl}
+use native.Mathlib.Omega.{arith}
+use lib.ListN.{length, take, drop, length-drop}
+use lib.Seq.{take-all}
+use borrow.Author.Tests.{eq-eqb, ne-eqb}
+use Rattle.statements.specs.Plants.{word, plantOf, plantFault}
+use Rattle.listing.specs.Text.{listing, refusedText, badMasksText}
+use Rattle.reply.specs.Reply.{plantPart, maskPart, masksOk, Outcome, inTurn, outcomeText, masksText, replyTo}
+use Rattle.reply.specs.Steps.{Parted, cameTo}
+
+-- nothing is left past the end
+drop-all : (n : ℕ) (xs : List ℕ) → length xs ≤ n → drop n xs ≡ []
+drop-all zero [] h = refl
+drop-all zero (x ∷ xs) h = absurd (omega arith)
+drop-all (suc n) [] h = refl
+drop-all (suc n) (x ∷ xs) h = drop-all n xs (omega arith)
+
+-- the input is cut: all of it is the plant's
+pub parted-cut : (input : List ℕ) (total : ℕ) → total ≡ word 6 input → length input < total → Parted input (length input)
+unfolding plantPart maskPart
+parted-cut input total e h =
+    let short : length input ≤ word 6 input = omega arith in
+    record {
+      within = le-refl (length input);
+      plant = take-all (length input) input (le-refl (length input)) ∙ sym (take-all (word 6 input) input short);
+      masks = drop-all (length input) input (le-refl (length input)) ∙ sym (drop-all (word 6 input) input short);
+    }
+
+-- it is not: the plant ends where its header says
+pub parted-whole : (input : List ℕ) (total : ℕ) → total ≡ word 6 input → total ≤ length input → Parted input total
+unfolding plantPart maskPart
+parted-whole input total e h =
+    record { within = h; plant = ap (λ (n : ℕ). take n input) e; masks = ap (λ (n : ℕ). drop n input) e }
+
+module _ {input : List ℕ} {end : ℕ} (parted : Parted input end) where
+  -- a refused plant
+  pub reply-refused : {r : ℕ} → r ≡ plantFault (take end input) → (r ≡ 0 → ⊥) → replyTo input ≡ refusedText r
+  unfolding replyTo
+  reply-refused {r} e h =
+      let is : plantFault (plantPart input) ≡ r = sym (e ∙ ap plantFault (parted .plant)) in
+      rw (is, ne-eqb r 0 h)
+
+  -- the rest of the input, as the code takes it
+  abbrev Rest : List ℕ
+  Rest = take (length input - end) (drop end input)
+
+  rest-masks : Rest ≡ maskPart input
+  rest-masks = take-all (length input - end) (drop end input) (simp length-drop (omega arith)) ∙ parted .masks
+
+  module _ (accepted : plantFault (take end input) ≡ 0) where
+    fine : plantFault (plantPart input) ≡ 0
+    fine = sym (ap plantFault (parted .plant)) ∙ accepted
+
+    -- bad masks after an accepted plant
+    pub reply-bad : masksOk Rest ≡ false → replyTo input ≡ badMasksText
+    unfolding replyTo masksText
+    reply-bad bad = rw (eq-eqb _ _ fine, ← rest-masks, bad)
+
+    -- good masks
+    pub reply-good : masksOk Rest ≡ true → replyTo input ≡ outcomeText (inTurn (plantOf (take end input)) Rest)
+    unfolding replyTo masksText
+    reply-good good = rw (eq-eqb _ _ fine, parted .plant, ← rest-masks, good)
+
+-- the text of what the masks come to: a refusal
+pub text-refused : {t : Outcome} {r : ℕ} (b : List ℕ) → t ≡ cameTo r b → (r ≡ 0 → ⊥) → outcomeText t ≡ refusedText r
+unfolding outcomeText cameTo
+text-refused {t} {r} b e h = rw (e, ne-eqb r 0 h)
+
+-- or the last book's listing
+pub text-listed : {t : Outcome} {r : ℕ} (b : List ℕ) → t ≡ cameTo r b → r ≡ 0 → outcomeText t ≡ listing b
+unfolding outcomeText cameTo
+text-listed {t} {r} b e h = rw (e, h)

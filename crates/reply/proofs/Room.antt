@@ -1,0 +1,106 @@
+-- The answer lies within the buffer, and one of 200,000 bytes has room for every answer. Assumes nothing.
+use mathlib.Core.Path.{_≡_, refl, sym}
+use mathlib.Core.Logic.{inl, inr}
+use mathlib.Core.Bool.{Bool, true, false, not}
+use mathlib.Core.List.{List}
+use Prim.Native.Nat.{ℕ, zero, suc, _≤_}
+use native.Mathlib.Omega.{arith}
+use lib.Dec.{eqb}
+use lib.ListN.{length}
+use borrow.Author.Tests.{leb-true, eqb-true}
+use Rattle.statements.specs.Plants.{Plant, plantOf, headOk, labelsOk, arrowsOk, firstOf, when, plantFault}
+use Rattle.statements.specs.Books.{maskOk, lessMask, madeBook}
+use Rattle.sets.proofs.Tests.{decided}
+use Rattle.decoding.proofs.Masks.{less-ok}
+use Rattle.decoding.proofs.Faults.{PlantOk, plant-ok}
+use Rattle.demands.proofs.Plants.{given-allowed}
+use Rattle.demands.proofs.Books.{is-book}
+use Rattle.demands.proofs.Afresh.{made-accepted, withdrawn-afresh}
+use Rattle.listing.specs.Text.{newline, listing, refusedText, badMasksText}
+use Rattle.listing.specs.Buffers.{hasRoom, placedLong}
+use Rattle.listing.proofs.Digits.{figure-few}
+use Rattle.listing.proofs.Texts.{text-most, listed}
+use Rattle.reply.specs.Reply.{plantPart, maskPart, masksOk, maskAt, withdrawing, inTurn, outcomeText}
+use Rattle.reply.specs.Reply.{masksText, replyTo}
+
+-- what is written of a text lies within the buffer
+pub placed-within : (text o : List ℕ) {r : ℕ} → r ≡ placedLong text o → r ≤ length o
+unfolding placedLong hasRoom
+placed-within text o {r} e =
+    elim (decided (hasRoom text o)) [
+      | inl h ↦ let long = rw h at e in omega (arith, leb-true (length text) (length o) h)
+      | inr h ↦ let none = rw h at e in omega arith
+    ]
+
+-- a plant's refusal is at most 3
+when-most : (t : Bool) (n k : ℕ) → n ≤ k → when t n ≤ k
+when-most true n k h = h
+when-most false n k h = omega arith
+
+first-most : (a b k : ℕ) → a ≤ k → b ≤ k → firstOf a b ≤ k
+first-most zero b k h g = g
+first-most (suc a) b k h g = h
+
+fault-most : (s : List ℕ) → plantFault s ≤ 3
+unfolding plantFault
+fault-most s =
+    let p = plantOf s in
+    let labels = not (labelsOk (p .goals) (p .labels)) in
+    let arrows = not (arrowsOk (p .states) (p .moves) 0 (p .arrows)) in
+    first-most (when (not (headOk s)) 1) (firstOf (when labels 2) (when arrows 3)) 3
+    (when-most (not (headOk s)) 1 3 (omega arith))
+    (first-most (when labels 2) (when arrows 3) 3 (when-most labels 2 3 (omega arith))
+    (when-most arrows 3 3 (omega arith)))
+
+-- a refusal's text is short
+refused-most : (n : ℕ) → n ≤ 6 → length (refusedText n) ≤ 200000
+unfolding refusedText newline
+refused-most n h = omega (arith, figure-few n newline (omega arith))
+
+module _ (p : Plant) (ok : PlantOk p) where
+  -- the listing of a book of a making
+  made-most : (mask : ℕ) → maskOk (p .moves) mask ≡ true → length (listing (madeBook p mask)) ≤ 200000
+  unfolding madeBook
+  made-most mask h =
+      let accepted = made-accepted p ok mask h in
+      rw (listed (madeBook p mask) accepted)
+      (text-most (madeBook p mask) (is-book (given-allowed p mask ok h) .bytes) accepted)
+
+  module _ (m : List ℕ) where
+    -- what masks come to
+    withdrawing-most : (n k mask : ℕ) → maskOk (p .moves) mask ≡ true
+        → length (outcomeText (withdrawing p m n k (madeBook p mask))) ≤ 200000
+    unfolding withdrawing outcomeText
+    withdrawing-most zero k mask h = made-most mask h
+    withdrawing-most (suc n) k mask h =
+        elim (decided (maskOk (p .moves) (maskAt m k))) [
+          | inl e ↦ rw (e, withdrawing, withdrawn-afresh p ok mask h (maskAt m k))
+              (withdrawing-most n (suc k) (lessMask mask (maskAt m k)) (less-ok (p .moves) mask (maskAt m k) h))
+          | inr e ↦ rw (e, withdrawing) (refused-most 6 (omega arith))
+        ]
+
+    in-turn-most : length (outcomeText (inTurn p m)) ≤ 200000
+    unfolding inTurn outcomeText
+    in-turn-most =
+        elim (decided (maskOk (p .moves) (maskAt m 0))) [
+          | inl e ↦ rw e (withdrawing-most _ 1 (maskAt m 0) e)
+          | inr e ↦ rw e (refused-most 6 (omega arith))
+        ]
+
+    masks-most : length (masksText p m) ≤ 200000
+    unfolding masksText badMasksText
+    masks-most =
+        elim (decided (masksOk m)) [
+          | inl e ↦ rw e in-turn-most
+          | inr e ↦ rw e (omega arith)
+        ]
+
+-- the longest answer
+pub reply-most : (input : List ℕ) → length (replyTo input) ≤ 200000
+unfolding replyTo
+reply-most input =
+    let s = plantPart input in
+    elim (decided (eqb (plantFault s) 0)) [
+      | inl e ↦ rw e (masks-most (plantOf s) (plant-ok s (eqb-true (plantFault s) 0 e)) (maskPart input))
+      | inr e ↦ rw e (refused-most (plantFault s) (omega (arith, fault-most s)))
+    ]

@@ -1,0 +1,3 @@
+-- The definitions that the reply's contract cites.
+pub mod Reply
+pub mod Steps

@@ -1,0 +1,70 @@
+-- What `planbook` answers, as a function from the bytes it reads to the bytes it prints. The input is a plant and then
+-- 1 to 16 four-byte masks; the first makes a book, the others withdraw from it in turn.
+use mathlib.Core.Bool.{Bool, true, false, _&&_}
+use mathlib.Core.List.{List}
+use Prim.Native.Nat.{ℕ, zero, suc, _+_, _-_, _*_, _/_, _%_}
+use lib.Dec.{eqb, leb}
+use lib.ListN.{length, take, drop}
+use Rattle.statements.specs.Sets.{pick}
+use Rattle.statements.specs.Plants.{word, Plant, plantOf, plantFault}
+use Rattle.statements.specs.Books.{maskOk, lessMask, madeBook, withdrawnBook}
+use Rattle.listing.specs.Text.{listing, refusedText, badMasksText}
+
+-- the plant's bytes: they end where the header's total length says
+unfoldable pub plantPart : List ℕ → List ℕ
+plantPart input = take (word 6 input) input
+
+-- the masks' bytes: all that follow
+unfoldable pub maskPart : List ℕ → List ℕ
+maskPart input = drop (word 6 input) input
+
+-- the bytes of 1 to 16 masks, none of them cut
+unfoldable pub masksOk : List ℕ → Bool
+masksOk m = leb 4 (length m) && (leb (length m) 64 && eqb (length m % 4) 0)
+
+-- mask k of some bytes
+unfoldable pub maskAt : List ℕ → ℕ → ℕ
+maskAt m k = word (2 * k) m + 65536 * word (2 * k + 1) m
+
+-- what masks come to: a refusal with its number, or the last book
+pub data Outcome : Type 0 where
+  refused : ℕ → Outcome
+  lists : List ℕ → Outcome
+
+-- n masks from mask k on withdrawn in turn from a book; one with a bit at U or above is refused with 6, and ends it
+unfoldable pub withdrawing : Plant → List ℕ → ℕ → ℕ → List ℕ → Outcome
+withdrawing p m zero k b = lists b
+withdrawing p m (suc n) k b =
+    elim (maskOk (p .moves) (maskAt m k)) [
+      | true ↦ withdrawing p m n (suc k) (withdrawnBook p b (maskAt m k))
+      | false ↦ refused 6
+    ]
+
+-- the masks in turn: the first makes, the others withdraw
+unfoldable pub inTurn : Plant → List ℕ → Outcome
+inTurn p m =
+    pick (maskOk (p .moves) (maskAt m 0)) (withdrawing p m (length m / 4 - 1) 1 (madeBook p (maskAt m 0))) (refused 6)
+
+-- the text of an outcome
+unfoldable pub outcomeText : Outcome → List ℕ
+outcomeText (refused n) = refusedText n
+outcomeText (lists b) = listing b
+
+-- the answer for an accepted plant
+unfoldable pub masksText : Plant → List ℕ → List ℕ
+masksText p m = pick (masksOk m) (outcomeText (inTurn p m)) badMasksText
+
+-- the answer: a refused plant's number, and otherwise what the masks come to
+unfoldable pub replyTo : List ℕ → List ℕ
+replyTo input =
+    let s = plantPart input in
+    pick (eqb (plantFault s) 0) (masksText (plantOf s) (maskPart input)) (refusedText (plantFault s))
+
+-- a mask less n masks from mask k on, in turn
+unfoldable pub leftOf : List ℕ → ℕ → ℕ → ℕ → ℕ
+leftOf m zero k mask = mask
+leftOf m (suc n) k mask = leftOf m n (suc k) (lessMask mask (maskAt m k))
+
+-- the moves in service after all the masks, told from them alone
+unfoldable pub servedBy : List ℕ → ℕ
+servedBy m = leftOf m (length m / 4 - 1) 1 (maskAt m 0)

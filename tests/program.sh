@@ -1,0 +1,166 @@
+#!/bin/bash
+# Runs the program `planbook` on plants and masks that are packed here, and compares what it prints with what document
+# 01 says, or with a small solver written for this test alone. Exits with 1 on any difference. Run it after `rt check`;
+# the program may be given as the first argument.
+set -u
+cd "$(dirname "$0")/.." || exit 1
+exec python3 - "${1:-target/bin/planbook}" <<'PYTHON'
+import struct
+import subprocess
+import sys
+
+PROGRAM = sys.argv[1]
+results = {True: 0, False: 0}
+
+
+def words(numbers):
+    return struct.pack("<%dH" % len(numbers), *numbers)
+
+
+def plant(moves, goals, labels, arrows, **changed):
+    """The bytes of a plant; `changed` sets numbers of the header by their place, as h6=70."""
+    s, e = len(labels), len(arrows)
+    head = [s, moves, goals, e, 16, 16 + 2 * s, 16 + 2 * s + 6 * e, 0]
+    for name, value in changed.items():
+        head[int(name[1:])] = value
+    return words(head + labels + [n for arrow in arrows for n in arrow])
+
+
+def masks(*values):
+    return struct.pack("<%dI" % len(values), *values)
+
+
+def check(name, data, expected):
+    run = subprocess.run([PROGRAM], input=data, stdout=subprocess.PIPE, check=True)
+    same = run.stdout == expected.encode()
+    results[same] += 1
+    if not same:
+        print("DIFFERS: %s\n  expected %r\n  printed  %r" % (name, expected[:200], run.stdout[:200]))
+
+
+def solve(moves, goals, labels, arrows, service):
+    """Kept states with their waits and moves: the greatest set in which every goal can be forced, by plain search."""
+    ends = {}
+    for x, u, y in arrows:
+        if service >> u & 1:
+            ends.setdefault(x, {}).setdefault(u, set()).add(y)
+
+    def lowest(x, target):
+        return next((u for u in sorted(ends.get(x, {})) if ends[x][u] <= target), None)
+
+    def waits(kept, goal):
+        stay = {x for x in kept if lowest(x, kept) is not None}
+        found = {x: 0 for x in stay if labels[x] >> 1 + goal & 1}
+        level = 0
+        while True:
+            level += 1
+            more = {x for x in stay - set(found) if lowest(x, set(found)) is not None}
+            if not more:
+                return found
+            found.update({x: level for x in more})
+
+    kept = {x for x in range(len(labels)) if labels[x] & 1}
+    while True:
+        left = set(kept)
+        for goal in range(goals):
+            left &= set(waits(kept, goal))
+        if left == kept:
+            break
+        kept = left
+    rows = {}
+    for goal in range(goals):
+        found = waits(kept, goal)
+        for x in kept:
+            target = {y for y in kept if found[y] < found[x]} if found[x] else kept
+            rows[x, goal] = (found[x], lowest(x, target))
+    return kept, rows
+
+
+def listing(moves, goals, labels, arrows, service):
+    kept, rows = solve(moves, goals, labels, arrows, service)
+    lines = ["%d of %d kept, %d moves in service" % (len(kept), len(labels), bin(service).count("1"))]
+    for x in range(len(labels)):
+        if x in kept:
+            lines += ["%d %d %d %d" % ((x, goal) + rows[x, goal]) for goal in range(goals)]
+        else:
+            lines.append("%d lost" % x)
+    return "".join(line + "\n" for line in lines)
+
+
+ARROWS = [(0, 0, 1), (0, 1, 1), (0, 1, 2), (1, 0, 2), (1, 1, 3), (1, 2, 0), (2, 0, 0), (2, 2, 1)]
+P = (3, 2, [3, 1, 5, 0], ARROWS)
+SAMPLE = """3 of 4 kept, 2 moves in service
+0 0 0 0
+0 1 2 0
+1 0 2 0
+1 1 1 0
+2 0 1 0
+2 1 0 0
+3 lost
+"""
+LOST = "0 of 4 kept, %d moves in service\n0 lost\n1 lost\n2 lost\n3 lost\n"
+
+# document 01's sample, and the books of M1, M3 and M4
+check("masks 7 and 4", plant(*P) + masks(7, 4), SAMPLE)
+check("the solver on the sample", plant(*P) + masks(7, 4), listing(*P, 3))
+check("M1", plant(*P) + masks(7), SAMPLE.replace("2 moves", "3 moves").replace("1 0 2 0", "1 0 1 2"))
+check("M3", plant(*P) + masks(7, 1), LOST % 2)
+check("M4", plant(*P) + masks(7, 2), SAMPLE.replace("1 0 2 0", "1 0 1 2"))
+check("mask 0", plant(*P) + masks(0), LOST % 0)
+check("a move named that is out already", plant(*P) + masks(7, 4, 4, 0), SAMPLE)
+check("16 masks", plant(*P) + masks(7, 4, *[0] * 14), SAMPLE)
+check("16 masks, the last withdraws", plant(*P) + masks(7, 4, *[0] * 13, 1), LOST % 1)
+for mask in range(8):
+    for gone in range(8):
+        check("masks %d, %d" % (mask, gone), plant(*P) + masks(mask, gone), listing(*P, mask & ~gone))
+
+# refusals of the plant: each before bad masks and before a bad mask
+for name, tail in [("no masks", b""), ("a good mask", masks(7)), ("a bad mask", masks(8))]:
+    check("refused 1 with " + name, plant(*P, h1=33) + tail, "refused 1\n")
+    check("refused 1, total length, with " + name, plant(*P, h6=73) + tail, "refused 1\n")
+    check("refused 2 with " + name, plant(3, 2, [3, 1, 5, 8], ARROWS) + tail, "refused 2\n")
+    check("refused 3 with " + name, plant(3, 2, [3, 1, 5, 0], ARROWS + [(2, 2, 1)]) + tail, "refused 3\n")
+check("no input", b"", "refused 1\n")
+check("15 bytes", plant(*P)[:15], "refused 1\n")
+check("16 bytes", plant(*P)[:16], "refused 1\n")
+check("a cut plant", plant(*P)[:71], "refused 1\n")
+check("masks cut short of the plant's length", plant(*P, h6=80) + masks(7), "refused 1\n")
+
+# bad masks after an accepted plant, before a mask is used
+check("no masks", plant(*P), "bad masks\n")
+check("17 masks", plant(*P) + masks(*[7] * 17), "bad masks\n")
+check("17 masks, the first bad", plant(*P) + masks(8, *[7] * 16), "bad masks\n")
+for cut in (1, 2, 3):
+    check("a first mask of %d bytes" % cut, plant(*P) + masks(7)[:cut], "bad masks\n")
+    check("a second mask of %d bytes" % cut, plant(*P) + masks(8, 4)[:4 + cut], "bad masks\n")
+check("16 masks and a byte", plant(*P) + masks(*[7] * 16) + b"\0", "bad masks\n")
+check("far too long", plant(*P) + bytes(10 ** 6), "bad masks\n")
+check("a refused plant far too long", plant(*P, h1=0) + bytes(10 ** 6), "refused 1\n")
+
+# bad masks in their places
+check("a bad first mask", plant(*P) + masks(8), "refused 6\n")
+check("a bad first mask, its high bit", plant(*P) + masks(0x80000007), "refused 6\n")
+check("a bad second mask", plant(*P) + masks(7, 8), "refused 6\n")
+check("a bad mask in the middle", plant(*P) + masks(7, 8, 4), "refused 6\n")
+check("a bad sixteenth mask", plant(*P) + masks(7, *[0] * 14, 8), "refused 6\n")
+
+# the longest plant with 16 masks, and 17; a plant with 32 moves
+ring = [(x, u, (x + 1 + u) % 1024) for x in range(1024) for u in range(8)]
+long = (8, 1, [1] * 1023 + [3], ring)
+check("the longest plant", plant(*long) + masks(255, *[16] * 15), listing(*long, 239))
+check("the longest plant, 17 masks", plant(*long) + masks(*[255] * 17), "bad masks\n")
+wide = (32, 1, [3], [(0, 31, 0)])
+check("32 moves", plant(*wide) + masks(0xFFFFFFFF), "1 of 1 kept, 32 moves in service\n0 0 0 31\n")
+check("32 moves, the last withdrawn", plant(*wide) + masks(0xFFFFFFFF, 1 << 31), "0 of 1 kept, 31 moves in service\n0 lost\n")
+
+# the longest listings: every state kept for 8 goals, at wait 0 by move 31, and on a ring of long waits
+still = (32, 8, [511] * 1024, [(x, 31, x) for x in range(1024)])
+lines = ["%d %d 0 31\n" % (x, goal) for x in range(1024) for goal in range(8)]
+check("every state kept", plant(*still) + masks(1 << 31), "1024 of 1024 kept, 1 moves in service\n" + "".join(lines))
+around = (32, 8, [1] * 1023 + [511], [(x, 31, (x + 1) % 1024) for x in range(1024)])
+lines = ["%d %d %d 31\n" % (x, goal, 1023 - x) for x in range(1024) for goal in range(8)]
+check("a ring", plant(*around) + masks(1 << 31), "1024 of 1024 kept, 1 moves in service\n" + "".join(lines))
+
+print("%d passed, %d failed" % (results[True], results[False]))
+sys.exit(bool(results[False]))
+PYTHON

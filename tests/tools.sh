@@ -1,0 +1,14 @@
+#!/usr/bin/env bash
+# Tests of ./run and the tools, with the planner that PLANBOOK_BIN names, or else with target/bin/planbook.
+# The last line is OK, and the exit status 0, when all pass.
+set -euo pipefail
+cd "$(dirname "${BASH_SOURCE[0]}")/.."
+
+PLANBOOK_BIN=${PLANBOOK_BIN:-$PWD/target/bin/planbook}
+if [ ! -x "$PLANBOOK_BIN" ]; then
+    echo "tests: planbook is not built; './run' builds it, or PLANBOOK_BIN names another one" >&2
+    exit 3
+fi
+PLANBOOK_BIN=$(realpath "$PLANBOOK_BIN")
+export PLANBOOK_BIN PYTHONDONTWRITEBYTECODE=1
+exec python3 tests/test_tools.py

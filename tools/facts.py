@@ -1,0 +1,95 @@
+"""What a picture shows: a plant, the masks, and the books after the first mask and after all of them."""
+from __future__ import annotations
+
+from dataclasses import dataclass
+from typing import Dict, List, Sequence, Tuple
+
+from listing import Book, Entry, PlannerError, book, ends_of
+from plant import Plant
+
+KEPT, DROPPED, LOST, NOT_ALLOWED = "kept", "dropped", "lost", "not-allowed"
+KINDS = (KEPT, DROPPED, LOST, NOT_ALLOWED)
+
+
+@dataclass
+class Facts:
+    title: str
+    plant: Plant
+    masks: List[int]
+    first: Book
+    last: Book
+    ends: Dict[Tuple[int, int], List[int]]
+
+    def in_service(self, move: int) -> bool:
+        return service(self.masks) >> move & 1 == 1
+
+    def kind(self, state: int) -> str:
+        """Kept in the last book; dropped: kept in the first book only; lost in both; or not allowed at all."""
+        if state in self.last.rows:
+            return KEPT
+        if state in self.first.rows:
+            return DROPPED
+        return LOST if self.plant.allowed(state) else NOT_ALLOWED
+
+    def of_kind(self, kind: str) -> List[int]:
+        return [state for state in range(self.plant.states) if self.kind(state) == kind]
+
+    def entry(self, state: int, goal: int) -> Entry:
+        return self.last.rows[state][goal]
+
+    def listed_ends(self, state: int, goal: int) -> List[int]:
+        """Where the move listed for a kept state may lead."""
+        return self.ends.get((state, self.entry(state, goal).move), [])
+
+    def move_text(self, move: int) -> str:
+        return named("move", move, self.plant.move_names)
+
+    def goal_text(self, goal: int) -> str:
+        return named("goal", goal, self.plant.goal_names)
+
+    def state_text(self, state: int) -> str:
+        return named("state", state, self.plant.state_names)
+
+    def sentence(self, state: int, goal: int) -> str:
+        """All that the book says of a state and goal, for tooltips."""
+        kind = self.kind(state)
+        if kind != KEPT:
+            why = {DROPPED: "dropped (kept at first, lost now)", LOST: "lost", NOT_ALLOWED: "not allowed, so lost"}
+            return f"{self.state_text(state)}: {why[kind]}"
+        entry = self.entry(state, goal)
+        ends = ranges(self.listed_ends(state, goal))
+        return f"{self.state_text(state)}: kept; wait {entry.wait} for goal {goal}; " \
+               f"{self.move_text(entry.move)}, leads to {ends}"
+
+
+def service(masks: Sequence[int]) -> int:
+    """The moves in service after all masks."""
+    mask = masks[0]
+    for withdrawn in masks[1:]:
+        mask &= ~withdrawn
+    return mask
+
+
+def gather(title: str, plant: Plant, masks: List[int]) -> Facts:
+    """Two runs of planbook: with the first mask alone, and with all."""
+    first, last = book(plant, masks[:1]), book(plant, masks)
+    if bin(service(masks)).count("1") != last.in_service:
+        raise PlannerError("planbook counts other moves in service than these masks leave")
+    return Facts(title, plant, masks, first, last, ends_of(plant))
+
+
+def named(kind: str, number: int, names: Dict[int, str]) -> str:
+    return f"{kind} {number} {names[number]}" if number in names else f"{kind} {number}"
+
+
+def ranges(numbers: Sequence[int]) -> str:
+    """Rising numbers as people write them: 1, 4 to 7, 9."""
+    parts: List[str] = []
+    at = 0
+    while at < len(numbers):
+        end = at
+        while end + 1 < len(numbers) and numbers[end + 1] == numbers[end] + 1:
+            end += 1
+        parts += [f"{numbers[at]} to {numbers[end]}"] if end > at + 1 else [str(n) for n in numbers[at:end + 1]]
+        at = end + 1
+    return ", ".join(parts) if parts else "none"
