@@ -1,2 +1,3 @@
 -- Definitions that contracts inside this crate cite.
 pub mod Checks
+pub mod Arrows

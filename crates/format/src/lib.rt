@@ -1,5 +1,6 @@
 // Checks of plants and books over byte slices, document 01's answers 1 to 5, and the readers of their bytes.
 // Nothing here trusts a lent byte: each function has an answer for any slice and any number.
+pub mod arrows;
 pub mod book;
 pub mod plant;
 pub mod word;

@@ -1,9 +1,4 @@
 -- Laws that the proofs of the solver share.
-pub mod Search
-pub mod TableUpTo
-pub mod TableGroups
-pub mod TableFilling
-pub mod TableLoading
 pub mod ReachTurns
 pub mod ReachSteps
 pub mod RoundsLists

@@ -1,6 +1,5 @@
 -- What the solver's arrays stand for.
 pub mod Table
-pub mod Filling
 pub mod Reached
 pub mod Reaching
 pub mod Rows

@@ -1,217 +1,33 @@
--- `solve::table::load` meets its contract. The loop's invariant: the table lacks just the arrows left from `at` on.
--- With none left the last states and the last start are stored, and the table is whole. Assumes nothing.
-use Prim.Native.Nat.{_+_, _-_}
-use mathlib.Core.Path.{_≡_, refl, sym, _∙_}
-use mathlib.Core.List.{_∷_}
-use native.Mathlib.Omega.{arith}
+-- `solve::table::load` meets its contract: for an accepted plant and arrays with room the table is loaded.
+-- Assumes nothing.
+use mathlib.Core.Path.{_∙_}
 use borrow.Author.Needs.{needs}
-use lib.ListN.{length, drop, length-set}
-use denote.Ref.{now}
-use Rattle.statements.specs.Plants.{Arrow, arrowsFrom, plantOf}
-use Rattle.solve.specs.Filling.{Filling}
-use Rattle.solve.proofs.TableFilling.{filling-skip, filling-from, filling-states, filling-some, filling-whole}
-use Rattle.solve.proofs.TableLoading.{Loading, loading-start, loading-next, loading-step, loading-bounds}
-use Rattle.solve.proofs.TableLoading.{loading-end}
+use Rattle.tables.proofs.Loading.{load-ready}
 use Rattle.solve.proofs.table.load.Statement.{statement}
 use Rattle.solve.proofs.table.load.Tie as tie
 
-abbrev Inv-loop : tie.InvT-loop
-Inv-loop plant mask groups₀ starts₀ moves₀ ends₀ states at₀ left₀ filled₀ groups starts moves ends at left filled =
-    Loading plant mask at left (filled .states) (filled .groups) (filled .ends) groups starts moves ends
-    × (length groups ≡ length groups₀) × (length starts ≡ length starts₀) × (length moves ≡ length moves₀)
-    × (length ends ≡ length ends₀)
+load-requires : tie.Need-load-requires
+load-requires c κs = search needs
 
-abbrev μ-loop : tie.MeasureT-loop
-μ-loop plant mask groups₀ starts₀ moves₀ ends₀ states at₀ left₀ filled₀ groups starts moves ends at left filled = left
+same-length : tie.Need-same-length
+same-length c = search needs
 
--- the arrow read, and those after it
-turn : (c : tie.After-word-at3 Inv-loop μ-loop)
-    → let l = c .before .before .before .before .loop in
-    let a = c .before .before .before .before .before .before .before .before .before .before .before .before .args in
-    let read = c .before .before .word-at .result in
-    let arrow : Arrow = record { from = read; move = c .before .word-at2 .result; to = c .word-at3 .result } in
-    let rest = arrowsFrom (l .left - 1) (drop (l .at + 6) (a .plant .now)) in
-    Filling (plantOf (a .plant .now)) (a .mask) (l .inv .0 .least) (arrow ∷ rest)
-    (l .filled .states) (l .filled .groups) (l .filled .ends) (l .groups) (l .starts) (l .moves) (l .ends)
-turn c =
-    rw (c .before .before .word-at .ensures, c .before .word-at2 .ensures, c .word-at3 .ensures)
-    (loading-next (c .before .before .before .before .loop .inv .0) (c .before .before .before .loop-test .taken))
+same-length-2 : tie.Need-same-length-2
+same-length-2 c = search needs
 
-number-requires : tie.Need-number-requires Inv-loop μ-loop
-number-requires c κs = search needs
+same-length-3 : tie.Need-same-length-3
+same-length-3 c = search needs
 
-cast-states : tie.Need-cast-states Inv-loop μ-loop
-cast-states c = search needs
+same-length-4 : tie.Need-same-length-4
+same-length-4 c = search needs
 
-mul-at : tie.Need-mul-at Inv-loop μ-loop
-mul-at c = omega arith
-
-add-at : tie.Need-add-at Inv-loop μ-loop
-add-at c = omega arith
-
-number-requires-2 : tie.Need-number-requires-2 Inv-loop μ-loop
-number-requires-2 c κs = search needs
-
-loop-holds : tie.Need-loop-holds Inv-loop μ-loop
-loop-holds c =
-    let start = c .before .before .before .before .before .before .before in
-    let a = start .args in (
-      rw (c .before .number .ensures, c .number2 .ensures)
-          (loading-start (a .plant .now) (a .mask) (a .groups .now) (a .starts .now) (a .moves .now) (a .ends .now)
-          (start .pre .0)),
-      refl,
-      refl,
-      refl,
-      refl,
-    )
-
-word-at-requires : tie.Need-word-at-requires Inv-loop μ-loop
-word-at-requires c κs = search needs
-
-add-word-at : tie.Need-add-word-at Inv-loop μ-loop
-add-word-at c = omega arith
-
-word-at-requires-2 : tie.Need-word-at-requires-2 Inv-loop μ-loop
-word-at-requires-2 c κs = search needs
-
-add-word-at-2 : tie.Need-add-word-at-2 Inv-loop μ-loop
-add-word-at-2 c = omega arith
-
-word-at-requires-3 : tie.Need-word-at-requires-3 Inv-loop μ-loop
-word-at-requires-3 c κs = search needs
-
-add-at-2 : tie.Need-add-at-2 Inv-loop μ-loop
-add-at-2 c = omega arith
-
-sub-left : tie.Need-sub-left Inv-loop μ-loop
-sub-left c = omega arith
-
-cast-bit-at : tie.Need-cast-bit-at Inv-loop μ-loop
-cast-bit-at c = search needs
-
-bit-at-requires : tie.Need-bit-at-requires Inv-loop μ-loop
-bit-at-requires c κs = search needs
-
-add-requires : tie.Need-add-requires Inv-loop μ-loop
-add-requires c κs =
-    let t = turn (c .before .before .before .before .before .before) in
-    let inv = c .before .before .before .before .before .before .before .before .before .before .loop .inv in (
-      (filling-from t, filling-states t, filling-some t),
-      (
-        (t .groups-few, omega (arith, t .ends-few)),
-        (omega (arith, inv), omega (arith, inv), omega (arith, inv), omega (arith, inv)),
-      ),
-    )
-
-loop-less : tie.Need-loop-less Inv-loop μ-loop
-loop-less c = omega arith
-
-loop-again : tie.Need-loop-again Inv-loop μ-loop
-loop-again c =
-    let added = c .before .before .before .before .before .before .before .before in
-    let served = added .before .before .before .before .before in
-    let l = served .before .before .before .before .before .before .loop in
-    let kept = added .add .kept in
-    let serves = sym (served .before .bit-at .ensures) ∙ served .if1 .taken in (
-      loading-step (l .inv .0) (served .before .before .before .before .before .loop-test .taken)
-          (added .add .ensures _ _ _ _ serves (turn (served .before .before))),
-      kept .1 .1 .1 .1 .0 ∙ l .inv .1,
-      kept .1 .1 .1 .1 .1 .0 ∙ l .inv .2,
-      kept .1 .1 .1 .1 .1 .1 .0 ∙ l .inv .3,
-      kept .1 .1 .1 .1 .1 .1 .1 .0 ∙ l .inv .4,
-    )
-
-loop-less-2 : tie.Need-loop-less-2 Inv-loop μ-loop
-loop-less-2 c = omega arith
-
-loop-again-2 : tie.Need-loop-again-2 Inv-loop μ-loop
-loop-again-2 c =
-    let l = c .before .before .before .before .before .before .loop in (
-      loading-step (l .inv .0) (c .before .before .before .before .before .loop-test .taken)
-          (filling-skip (turn (c .before .before)) (sym (c .before .bit-at .ensures) ∙ c .if1 .left)),
-      l .inv .1,
-      l .inv .2,
-      l .inv .3,
-      l .inv .4,
-    )
-
-open-requires : tie.Need-open-requires Inv-loop μ-loop
-open-requires c κs =
-    let l = c .before .before .loop in
-    let bounds = loading-bounds (l .inv .0) in
-    let states = c .before .before .before .before .number .ensures in
-    ((omega arith, omega arith), (omega (arith, l .inv), omega arith))
-
-cast-starts : tie.Need-cast-starts Inv-loop μ-loop
-cast-starts c = omega (arith, loading-bounds (c .before .before .before .before .before .before .loop .inv .0))
-
-mul-starts : tie.Need-mul-starts Inv-loop μ-loop
-mul-starts c = omega (arith, loading-bounds (c .before .before .before .before .before .before .loop .inv .0))
-
-slice-write-starts : tie.Need-slice-write-starts Inv-loop μ-loop
-slice-write-starts c =
-    let l = c .before .before .before .before .before .before .loop in
-    omega (arith, loading-bounds (l .inv .0), l .inv)
-
-same-length : tie.Need-same-length Inv-loop μ-loop
-same-length c =
-    c .before .before .before .«open» .kept .0 ∙ c .before .before .before .before .before .before .loop .inv .1
-
-same-length-2 : tie.Need-same-length-2 Inv-loop μ-loop
-same-length-2 c = simp length-set (c .before .before .before .before .before .before .loop .inv .2)
-
-same-length-3 : tie.Need-same-length-3 Inv-loop μ-loop
-same-length-3 c = c .before .before .before .before .before .before .loop .inv .3
-
-same-length-4 : tie.Need-same-length-4 Inv-loop μ-loop
-same-length-4 c = c .before .before .before .before .before .before .loop .inv .4
-
-returns : tie.Need-returns Inv-loop μ-loop
-unfolding plantOf
+returns : tie.Need-returns
 returns c =
-    let opened = c .before .before .before in
-    let ended = opened .before .before in
-    let l = ended .before .loop in
-    let bounds = loading-bounds (l .inv .0) in
-    let states = ended .before .before .before .number .ensures in
-    let room = ended .before .before .before .before .before .before .before .before .before .pre .1 in
-    let long : length (opened .«open» .last .0) ≡ length (l .groups) = opened .«open» .kept .0 in
-    filling-whole (loading-end (l .inv .0) (ended .loop-test .left)) (opened .«open» .last .0)
-    (rw states at (opened .«open» .ensures)) (omega (arith, l .inv)) (omega (arith, l .inv))
-    (omega (arith, l .inv)) (omega (arith, l .inv))
+    let done = c .before .before .before .before .before .before .before .before in
+    let start = done .before .before .before .before .before .before .before .before .before .before in
+    done .load .ensures .1 .0 (done .load .ensures .0 ∙ load-ready _ _ _ _ _ (start .pre .0) (start .pre .1))
 
 pub load-spec : {M : Type 1} → statement M
 load-spec =
     tie.close
-    (tie.spec
-    Inv-loop
-    μ-loop
-    number-requires
-    cast-states
-    mul-at
-    add-at
-    number-requires-2
-    loop-holds
-    word-at-requires
-    add-word-at
-    word-at-requires-2
-    add-word-at-2
-    word-at-requires-3
-    add-at-2
-    sub-left
-    cast-bit-at
-    bit-at-requires
-    add-requires
-    loop-less
-    loop-again
-    loop-less-2
-    loop-again-2
-    open-requires
-    cast-starts
-    mul-starts
-    slice-write-starts
-    same-length
-    same-length-2
-    same-length-3
-    same-length-4
-    returns)
+    (tie.spec load-requires same-length same-length-2 same-length-3 same-length-4 returns)

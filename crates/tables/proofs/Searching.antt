@@ -1,6 +1,6 @@
--- The search of one state's groups: what the places of a group say of its move, and what the groups passed say of the
--- lowest move into the states below a limit. Assumes nothing.
-use mathlib.Core.Path.{_≡_, sym, ap, _∙_}
+-- A search of the table of a plant: what the places of a group say of its move, and that the first group whose places
+-- all lead below a limit has the lowest move into the states below it. Assumes nothing.
+use mathlib.Core.Path.{_≡_, refl, sym, ap, _∙_}
 use mathlib.Core.Logic.{⊎-elim}
 use mathlib.Core.Bool.{true, false}
 use mathlib.Core.List.{List, [], _∷_}
@@ -12,18 +12,16 @@ use lib.Dec.{ltb}
 use lib.ListN.{length, getD, take}
 use lib.Seq.{slice, length-slice, getD-drop, getD-take}
 use borrow.Author.Tests.{ltb-true, lt-ltb}
-use Rattle.statements.specs.Sets.{numbers, first, isIn}
+use Rattle.statements.specs.Sets.{numbers, every, first, isIn}
 use Rattle.statements.specs.Plants.{Plant, ends, goesInto, moveInto}
 use Rattle.sets.proofs.Tests.{decided, same-number, not-both}
 use Rattle.sets.proofs.Members.{isIn-here, isIn-there, isIn-cases, isIn-none, filter-holds, filter-in, numbers-in}
+use Rattle.sets.proofs.Numbers.{every-at, every-all}
 use Rattle.sets.proofs.First.{first-range, first-holds, first-least}
 use Rattle.kept.proofs.Moves.{into-available, into-ends, into-all, available-below, MovesBelow}
 use Rattle.decoding.proofs.Faults.{PlantOk, arrow-range}
-use Rattle.solve.specs.Table.{below, GroupOf, Table}
-
--- the code's next index
-pub next-at : (xs : List ℕ) (i : ℕ) → getD xs (i + 1) 0 ≡ getD xs (suc i) 0
-next-at xs i = rw add-one
+use Rattle.tables.proofs.Turns.{InRange, getD-in, land-all, search-hit, search-none}
+use Rattle.tables.specs.Table.{below, GroupOf, Table, lands, allLand, searchIn}
 
 -- the number at an index is a member, and a member stands at an index
 pub isIn-at : (xs : List ℕ) (k : ℕ) → k < length xs → isIn (getD xs k 0) xs ≡ true
@@ -94,29 +92,17 @@ move-none p mask ys x lower =
     (λ d. absurd (not-both (first-holds (p .moves) 0 test (omega arith)) (lower found (omega arith))))
     (same-number found (p .moves))
 
--- the groups of a state up to g have an end at or above the limit
-pub record Searched (p : Plant) (mask : ℕ) (groups moves waits : List ℕ) (limit x g : ℕ) : Type 0 where
-  pub from : getD groups x 0 ≤ g
-  pub to : g ≤ getD groups (suc x) 0
-  pub passed : (h : ℕ) → getD groups x 0 ≤ h → h < g
-      → goesInto p mask (below waits limit (p .states)) x (getD moves h 0) ≡ false
-
--- the places of a group up to k lead below the limit
-pub record Landed (starts places waits : List ℕ) (limit g k : ℕ) : Type 0 where
-  pub from : getD starts g 0 ≤ k
-  pub to : k ≤ getD starts (suc g) 0
-  pub passed : (j : ℕ) → getD starts g 0 ≤ j → j < k → getD waits (getD places j 0) 0 < limit
-
 -- a state of an accepted plant, whose table is at hand
 pub record Sought (p : Plant) (mask : ℕ) (groups starts moves places waits : List ℕ) (limit x : ℕ) : Type 0 where
   pub ok : PlantOk p
   pub table : Table p mask groups starts moves places
   pub here : x < p .states
+  pub long : p .states ≤ length waits
 
 module _ {p : Plant} {mask : ℕ} {groups starts moves places waits : List ℕ} {limit x : ℕ}
     (q : Sought p mask groups starts moves places waits limit x) where
   -- a place of a group is an end of its move
-  pub place-end : (g k : ℕ) → GroupOf groups x g → getD starts g 0 ≤ k → k < getD starts (suc g) 0
+  place-end : (g k : ℕ) → GroupOf groups x g → getD starts g 0 ≤ k → k < getD starts (suc g) 0
       → isIn (getD places k 0) (ends p x (getD moves g 0)) ≡ true
   place-end g k m low high =
       let long = q .table .places-long x g (q .here) m in
@@ -124,7 +110,7 @@ module _ {p : Plant} {mask : ℕ} {groups starts moves places waits : List ℕ} 
       at (slice-isIn (getD starts g 0) (getD starts (suc g) 0) places k low high long)
 
   -- and a state
-  pub place-state : (g k : ℕ) → GroupOf groups x g → getD starts g 0 ≤ k → k < getD starts (suc g) 0
+  place-state : (g k : ℕ) → GroupOf groups x g → getD starts g 0 ≤ k → k < getD starts (suc g) 0
       → getD places k 0 < p .states
   unfolding ends
   place-state g k m low high =
@@ -136,101 +122,125 @@ module _ {p : Plant} {mask : ℕ} {groups starts moves places waits : List ℕ} 
   unfolding ends
   moves-below y u z h = arrow-range (p .arrows) (p .states) (p .moves) 0 y u z (q .ok .arrows-ok) h .0
 
-  -- where every place leads below the limit the group's move goes there
-  pub group-good : (g : ℕ) → GroupOf groups x g → Landed starts places waits limit g (getD starts (suc g) 0)
+  -- a place of a group lands where its state is below the limit
+  lands-is : (g k : ℕ) → GroupOf groups x g → getD starts g 0 ≤ k → k < getD starts (suc g) 0
+      → lands places waits limit k ≡ ltb (getD waits (getD places k 0) 0) limit
+  unfolding lands
+  lands-is g k m low high =
+      let inside : getD places k 0 < length waits = omega (arith, place-state g k m low high, q .long) in
+      ap (λ w. ltb w limit) (getD-in waits (getD places k 0) limit 0 inside)
+
+  -- the places of a group are in range, so they decide
+  every-place : (g : ℕ) → GroupOf groups x g → allLand starts places waits limit g
+      ≡ every (getD starts (suc g) 0 - getD starts g 0) (getD starts g 0) (lands places waits limit)
+  every-place g m =
+      rw add-one
+      at (land-all starts places waits limit g (rw add-one (q .table .places-long x g (q .here) m)))
+
+  -- a group's places all land where its move goes below the limit
+  land-into : (g : ℕ) → GroupOf groups x g → allLand starts places waits limit g ≡ true
       → goesInto p mask (below waits limit (p .states)) x (getD moves g 0) ≡ true
-  group-good g m l =
+  land-into g m good =
       let low = getD starts g 0 in
       let high = getD starts (suc g) 0 in
+      let long = q .table .places-long x g (q .here) m in
+      let all = sym (every-place g m) ∙ good in
       into-all p mask (below waits limit (p .states)) x (getD moves g 0) (q .table .is-available x g (q .here) m)
       (λ y e.
-      let long = q .table .places-long x g (q .here) m in
       let r = slice-where low high places y long (rw (q .table .ends-are x g (q .here) m) e) in
+      let k = r .0 in
+      let here = every-at (high - low) low (lands places waits limit) all k (r .1) (omega (arith, r .1, r .2)) in
       rw (← r .3)
-      (below-in waits limit (p .states) (getD places (r .0) 0) (place-state g (r .0) m (r .1) (r .2))
-      (l .passed (r .0) (r .1) (r .2))))
+      (below-in waits limit (p .states) (getD places k 0) (place-state g k m (r .1) (r .2))
+      (ltb-true (getD waits (getD places k 0) 0) limit (sym (lands-is g k m (r .1) (r .2)) ∙ here))))
 
-  -- where one place does not the move does not go there
-  pub group-bad : (g k : ℕ) → GroupOf groups x g → getD starts g 0 ≤ k → k < getD starts (suc g) 0
-      → limit ≤ getD waits (getD places k 0) 0
-      → goesInto p mask (below waits limit (p .states)) x (getD moves g 0) ≡ false
-  group-bad g k m low high above =
-      ⊎-elim
-      (λ good.
-      let set = below waits limit (p .states) in
-      let inside = into-ends p mask set x (getD moves g 0) good (getD places k 0) (place-end g k m low high) in
-      absurd (omega (arith, below-holds waits limit (p .states) (getD places k 0) inside)))
-      (λ bad. bad)
-      (decided (goesInto p mask (below waits limit (p .states)) x (getD moves g 0)))
-
-  -- one more group passed
-  pub searched-more : (g : ℕ) → Searched p mask groups moves waits limit x g → GroupOf groups x g
-      → goesInto p mask (below waits limit (p .states)) x (getD moves g 0) ≡ false
-      → Searched p mask groups moves waits limit x (g + 1)
-  searched-more g s m bad =
-      record {
-        from = omega arith;
-        to = omega arith;
-        passed = λ h low high.
-            ⊎-elim
-            (λ e. rw e bad)
-            (λ d. s .passed h low (omega arith))
-            (same-number h g);
-      }
-
-  -- a move that goes below the limit is no group's that was passed
-  not-passed : (g v : ℕ) → Searched p mask groups moves waits limit x g
-      → goesInto p mask (below waits limit (p .states)) x v ≡ true
-      → (h : ℕ) × (GroupOf groups x h) × (getD moves h 0 ≡ v) × (g ≤ h)
-  not-passed g v s good =
-      let r = q .table .complete x v (q .here) (into-available p mask (below waits limit (p .states)) x v good) in
-      elim (decLt (r .0) g) [
-        | yes l ↦
-            absurd (not-both good (rw (r .2) at (s .passed (r .0) (r .1 .from) l)))
-        | no l ↦ (r .0, r .1, r .2, omega arith)
-      ]
-
-  -- what the search yields: the first group whose move goes below the limit, and otherwise the number of moves
-  pub search-found : (g : ℕ) → Searched p mask groups moves waits limit x g → GroupOf groups x g
+  -- and the other way round
+  into-land : (g : ℕ) → GroupOf groups x g
       → goesInto p mask (below waits limit (p .states)) x (getD moves g 0) ≡ true
-      → getD moves g 0 ≡ moveInto p mask (below waits limit (p .states)) x
-  search-found g s m good =
+      → allLand starts places waits limit g ≡ true
+  into-land g m good =
+      let set = below waits limit (p .states) in
+      let low = getD starts g 0 in
+      let high = getD starts (suc g) 0 in
+      every-place g m
+      ∙ every-all (high - low) low (lands places waits limit) (λ k from to.
+      let past : k < high = omega arith in
+      let inside = into-ends p mask set x (getD moves g 0) good (getD places k 0) (place-end g k m from past) in
+      let small = below-holds waits limit (p .states) (getD places k 0) inside in
+      lands-is g k m from past ∙ lt-ltb (getD waits (getD places k 0) 0) limit small)
+
+  -- a move that goes below the limit has a group, which the search does not pass
+  not-passed : (v : ℕ) → goesInto p mask (below waits limit (p .states)) x v ≡ true
+      → let from = getD groups x 0 in
+      let to = getD groups (suc x) 0 in
+      (h : ℕ) × (GroupOf groups x h) × (getD moves h 0 ≡ v)
+      × (first (to - from) from (allLand starts places waits limit) ≤ h)
+  not-passed v good =
+      let from = getD groups x 0 in
+      let to = getD groups (suc x) 0 in
+      let r = q .table .complete x v (q .here) (into-available p mask (below waits limit (p .states)) x v good) in
+      let lands-there = into-land (r .0) (r .1) (rw (r .2) good) in (
+        r .0,
+        r .1,
+        r .2,
+        first-least (to - from) from (allLand starts places waits limit) (r .0) (r .1 .from)
+            (omega (arith, r .1 .to, r .1 .from)) lands-there,
+      )
+
+  -- the first group whose places all land has the lowest move, and where there is none no move goes below the limit
+  first-group : (g : ℕ) → GroupOf groups x g
+      → g ≡ first (getD groups (suc x) 0 - getD groups x 0) (getD groups x 0) (allLand starts places waits limit)
+      → moveInto p mask (below waits limit (p .states)) x ≡ getD moves g 0
+  first-group g m is =
       let set = below waits limit (p .states) in
       let u = getD moves g 0 in
-      sym
-      (move-is p mask set x u (available-below p mask x u moves-below (q .table .is-available x g (q .here) m)) good
+      let from = getD groups x 0 in
+      let to = getD groups (suc x) 0 in
+      let holds = first-holds (to - from) from (allLand starts places waits limit)
+      (omega (arith, m .from, m .to, is)) in
+      move-is p mask set x u (available-below p mask x u moves-below (q .table .is-available x g (q .here) m))
+      (land-into g m (rw is holds))
       (λ v lower.
       ⊎-elim
       (λ other.
-      let r = not-passed g v s other in
+      let r = not-passed v other in
       absurd
       (⊎-elim
       (λ e. let same = ap (λ h. getD moves h 0) e in omega (arith, r .2))
       (λ d. omega (arith, r .2, q .table .moves-rise x g (r .0) (q .here) m (r .1) (omega (arith, r .3))))
       (same-number g (r .0))))
       (λ bad. bad)
-      (decided (goesInto p mask set x v))))
+      (decided (goesInto p mask set x v)))
 
-  pub search-none : (g : ℕ) → Searched p mask groups moves waits limit x g → g ≡ getD groups (suc x) 0
-      → p .moves ≡ moveInto p mask (below waits limit (p .states)) x
-  search-none g s e =
+  no-group : getD groups (suc x) 0
+      ≤ first (getD groups (suc x) 0 - getD groups x 0) (getD groups x 0) (allLand starts places waits limit)
+      → moveInto p mask (below waits limit (p .states)) x ≡ p .moves
+  no-group past =
       let set = below waits limit (p .states) in
-      sym
-      (move-none p mask set x
+      move-none p mask set x
       (λ v lower.
       ⊎-elim
-      (λ other. let r = not-passed g v s other in absurd (omega (arith, r .1 .to, r .3)))
+      (λ other. let r = not-passed v other in absurd (omega (arith, r .1 .to, r .3)))
       (λ bad. bad)
-      (decided (goesInto p mask set x v))))
+      (decided (goesInto p mask set x v)))
 
--- one more place of a group passed
-pub landed-more : {starts places waits : List ℕ} {limit g k : ℕ} → Landed starts places waits limit g k
-    → k < getD starts (suc g) 0 → getD waits (getD places k 0) 0 < limit
-    → Landed starts places waits limit g (k + 1)
-landed-more {g = g} {k = k} l inside lower =
-    record {
-      from = omega (arith, l .from);
-      to = omega arith;
-      passed = λ j low high.
-          ⊎-elim (λ e. rw e lower) (λ d. l .passed j low (omega arith)) (same-number j k);
-    }
+  -- a search of a plant's table yields the lowest move into the states below the limit
+  pub search-table : searchIn groups starts moves places waits limit x (p .moves)
+      ≡ moveInto p mask (below waits limit (p .states)) x
+  search-table =
+      let from = getD groups x 0 in
+      let to = getD groups (suc x) 0 in
+      let g = first (to - from) from (allLand starts places waits limit) in
+      let least = first-range (to - from) from (allLand starts places waits limit) in
+      let started : getD groups (x + 1) 0 < length starts = rw add-one (q .table .starts-long x (q .here)) in
+      let moved : getD groups (x + 1) 0 ≤ length moves = rw add-one (q .table .moves-long x (q .here)) in
+      let all : InRange groups starts moves x = record { starts-long = started; moves-long = moved } in
+      elim (decLt g to) [
+        | yes inside ↦
+            search-hit groups starts moves places waits limit x (p .moves) all g (rw add-one) (rw add-one inside)
+            ∙ sym (first-group g (record { from = least .0; to = inside }) refl)
+        | no outside ↦
+            search-none groups starts moves places waits limit x (p .moves) all g (rw add-one)
+            (rw add-one (omega arith))
+            ∙ sym (no-group (omega arith))
+      ]

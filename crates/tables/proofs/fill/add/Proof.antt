@@ -1,11 +1,11 @@
--- `solve::table::add` meets its contract. An arrow of the last group adds an end to it; any other opens the states up
+-- `tables::fill::add` meets its contract. An arrow of the last group adds an end to it; any other opens the states up
 -- to its own and a group, which has that one end. Assumes nothing.
 use mathlib.Core.Logic.{inl, inr, ⊎-elim}
 use native.Mathlib.Omega.{arith}
-use Rattle.solve.proofs.TableFilling.{filling-same, filling-fresh}
+use Rattle.tables.proofs.Filling.{filling-same, filling-fresh}
 use borrow.Author.Needs.{needs}
-use Rattle.solve.proofs.table.add.Statement.{statement}
-use Rattle.solve.proofs.table.add.Tie as tie
+use Rattle.tables.proofs.fill.add.Statement.{statement}
+use Rattle.tables.proofs.fill.add.Tie as tie
 
 sub-if2 : tie.Need-sub-if2
 sub-if2 c = c .before .before .before .before .before .pre .0 .2 (c .if1 .taken)

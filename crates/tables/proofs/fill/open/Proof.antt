@@ -1,13 +1,13 @@
--- `solve::table::open` meets its contract. The loop's invariant: with `group` from `x` on, the first groups are as
+-- `tables::fill::open` meets its contract. The loop's invariant: with `group` from `x` on, the first groups are as
 -- they were with `group` from `first` on. Assumes nothing.
 use Prim.Native.Nat.{ℕ, _+_, _-_, _≤_, _<_}
 use mathlib.Core.Path.{_≡_, refl, _∙_}
 use native.Mathlib.Omega.{arith}
 use lib.ListN.{length, length-set}
-use Rattle.solve.specs.Filling.{upTo}
-use Rattle.solve.proofs.TableUpTo.{upTo-set}
-use Rattle.solve.proofs.table.open.Statement.{statement}
-use Rattle.solve.proofs.table.open.Tie as tie
+use Rattle.tables.specs.Filling.{upTo}
+use Rattle.tables.proofs.UpTo.{upTo-set}
+use Rattle.tables.proofs.fill.open.Statement.{statement}
+use Rattle.tables.proofs.fill.open.Tie as tie
 
 abbrev Inv-loop : tie.InvT-loop
 Inv-loop groups₀ first last group x₀ groups x =

@@ -7,7 +7,7 @@ use native.Mathlib.Decide.{decLt}
 use lib.ListN.{length, getD, set}
 use lib.Seq.{getD-set-same, getD-set-other}
 use borrow.Author.Tests.{lt-ltb, le-ltb}
-use Rattle.solve.specs.Filling.{upTo}
+use Rattle.tables.specs.Filling.{upTo}
 
 -- below the index the list's number, from the index on the other one
 pub upTo-low : (xs : List ℕ) (n v k : ℕ) → k < n → upTo xs n v k ≡ getD xs k 0

@@ -15,10 +15,10 @@ use borrow.Author.Tests.{ltb-true, leb-true}
 use Rattle.statements.specs.Sets.{bit}
 use Rattle.statements.specs.Plants.{Arrow, Plant, arrowsOk, rank, ends}
 use Rattle.sets.proofs.Tests.{same-number, and-left, and-right}
-use Rattle.solve.specs.Table.{Table}
-use Rattle.solve.specs.Filling.{upTo, Within, Groups, Filling}
-use Rattle.solve.proofs.TableUpTo.{upTo-low, upTo-high, upTo-set}
-use Rattle.solve.proofs.TableGroups.{group-below, groups-skip, groups-open, groups-add, groups-whole}
+use Rattle.tables.specs.Table.{Table}
+use Rattle.tables.specs.Filling.{upTo, Within, Groups, Filling}
+use Rattle.tables.proofs.UpTo.{upTo-low, upTo-high, upTo-set}
+use Rattle.tables.proofs.Groups.{group-below, groups-skip, groups-open, groups-add, groups-whole}
 
 -- what is known of the next arrow, and of those after it
 pub record Next (p : Plant) (least : ℕ) (a : Arrow) (rest : List Arrow) : Type 0 where

@@ -18,8 +18,8 @@ use Rattle.statements.specs.Plants.{Arrow, Plant, rank, endsIn, ends, available
 use Rattle.sets.proofs.Tests.{same-number, not-both, and-true}
 use Rattle.sets.proofs.Members.{isIn-none}
 use Rattle.kept.proofs.Moves.{available-bit, available-end}
-use Rattle.solve.specs.Table.{GroupOf, Table}
-use Rattle.solve.specs.Filling.{Within, Groups}
+use Rattle.tables.specs.Table.{GroupOf, Table}
+use Rattle.tables.specs.Filling.{Within, Groups}
 
 -- the arrows left from an arrow on: one that leads from x by u adds its end, any other adds nothing
 pub ends-match : (a : Arrow) (rest : List Arrow)

@@ -1,0 +1,55 @@
+// The arrows of a plant, read one after another in their stored order. The reader holds the plant's bytes and a place;
+// the work is done by `arrow_at`, on the slice and the number, and all other code calls `read`.
+use crate::word::number;
+use crate::word::word_at;
+ghost use mathlib.Core.Path.{_≡_};
+ghost use Rattle.format.specs.Arrows.{arrowIn};
+
+// An arrow: a state, a move made in it, and a state to which it may lead.
+pub struct Arrow {
+    pub from: u16,
+    pub action: u16,
+    pub to: u16,
+}
+
+// A place among a plant's arrows.
+pub struct Arrows<'a> {
+    pub plant: &'a [u8],
+    pub at: u16,
+}
+
+// Arrow k of a plant; bytes past the end count as 0.
+pub fn arrow_at(plant: &[u8], k: u16) -> Arrow
+    ensures { λ r. ⌜ r ≡ arrowIn (now (plant .entry)) k ⌝ }
+{
+    let place = 16 + 2 * (number(plant, 0) as usize) + 6 * (k as usize);
+    let from = word_at(plant, place);
+    let action = word_at(plant, place + 2);
+    let to = word_at(plant, place + 4);
+    Arrow {
+        from: from,
+        action: action,
+        to: to,
+    }
+}
+
+// A reader of a plant's arrows, at a place.
+pub fn new<'a>(plant: &'a [u8], at: u16) -> Arrows<'a>
+    ensures { λ r. ⌜ (r .plant ≡ plant .entry) × (r .at ≡ at) ⌝ }
+{
+    Arrows { plant, at }
+}
+
+// The arrow at the reader's place.
+pub fn next<'a>(arrows: Arrows<'a>) -> Arrow
+    ensures { λ r. ⌜ r ≡ arrowIn (now (arrows .entry .plant)) (arrows .entry .at) ⌝ }
+{
+    arrow_at(arrows.plant, arrows.at)
+}
+
+// Arrow k of a plant, through the reader.
+pub fn read(plant: &[u8], k: u16) -> Arrow
+    ensures { λ r. ⌜ r ≡ arrowIn (now (plant .entry)) k ⌝ }
+{
+    next(new(plant, k))
+}
