@@ -151,7 +151,8 @@ check("the longest plant", plant(*long) + masks(255, *[16] * 15), listing(*long,
 check("the longest plant, 17 masks", plant(*long) + masks(*[255] * 17), "bad masks\n")
 wide = (32, 1, [3], [(0, 31, 0)])
 check("32 moves", plant(*wide) + masks(0xFFFFFFFF), "1 of 1 kept, 32 moves in service\n0 0 0 31\n")
-check("32 moves, the last withdrawn", plant(*wide) + masks(0xFFFFFFFF, 1 << 31), "0 of 1 kept, 31 moves in service\n0 lost\n")
+wide_lost = "0 of 1 kept, 31 moves in service\n0 lost\n"
+check("32 moves, the last withdrawn", plant(*wide) + masks(0xFFFFFFFF, 1 << 31), wide_lost)
 
 # the longest listings: every state kept for 8 goals, at wait 0 by move 31, and on a ring of long waits
 still = (32, 8, [511] * 1024, [(x, 31, x) for x in range(1024)])

@@ -1,17 +1,21 @@
 -- Demand 3 of the book that is listed: it is that of a making afresh with the moves in service, told from the masks
 -- alone. Assumes nothing.
-use mathlib.Core.Path.{_≡_, refl, _∙_}
+use mathlib.Core.Path.{_≡_, refl, ap, _∙_}
 use mathlib.Core.Bool.{true}
 use mathlib.Core.List.{List}
 use Prim.Native.Nat.{ℕ, zero, suc, _+_, _/_, _<_}
 use native.Mathlib.Omega.{arith}
 use lib.ListN.{length}
-use Rattle.statements.specs.Plants.{Plant}
+use Rattle.statements.specs.Plants.{Plant, plantOf, plantFault}
 use Rattle.statements.specs.Books.{maskOk, lessMask, madeBook}
 use Rattle.decoding.proofs.Masks.{less-ok}
-use Rattle.decoding.proofs.Faults.{PlantOk}
+use Rattle.decoding.proofs.Faults.{PlantOk, plant-ok}
 use Rattle.demands.proofs.Afresh.{withdrawn-afresh}
-use Rattle.reply.specs.Reply.{maskAt, Outcome, lists, withdrawing, inTurn, leftOf, servedBy}
+use Rattle.listing.specs.Text.{listing}
+use Rattle.reply.specs.Reply.{plantPart, maskPart, masksOk, maskAt, lists, withdrawing, inTurn, outcomeText}
+use Rattle.reply.specs.Reply.{replyTo, leftOf, servedBy}
+use Rattle.reply.proofs.Parts.{masks-good}
+use Rattle.reply.proofs.Turns.{masks-few}
 
 module _ (p : Plant) (ok : PlantOk p) (m : List ℕ) where
   -- good masks, withdrawn in turn from the book of a making
@@ -32,3 +36,16 @@ module _ (p : Plant) (ok : PlantOk p) (m : List ℕ) where
   unfolding inTurn servedBy
   in-turn-afresh some good =
       rw (good 0 some) (withdrawing-afresh _ 1 (maskAt m 0) (good 0 some) (λ j l. good j (omega arith)))
+
+-- so the answer for good masks is the listing of that book
+pub reply-afresh : (input : List ℕ) → plantFault (plantPart input) ≡ 0 → masksOk (maskPart input) ≡ true
+    → ((j : ℕ) → j < length (maskPart input) / 4
+    → maskOk (plantOf (plantPart input) .moves) (maskAt (maskPart input) j) ≡ true)
+    → replyTo input ≡ listing (madeBook (plantOf (plantPart input)) (servedBy (maskPart input)))
+unfolding outcomeText
+reply-afresh input accepted good fine =
+    let some = masks-few (maskPart input) good in
+    masks-good input accepted good ∙
+    ap outcomeText
+    (in-turn-afresh (plantOf (plantPart input)) (plant-ok (plantPart input) accepted) (maskPart input)
+    (omega arith) fine)

@@ -11,8 +11,9 @@ use lib.Seq.{take-all}
 use borrow.Author.Tests.{eq-eqb, ne-eqb}
 use Rattle.statements.specs.Plants.{word, plantOf, plantFault}
 use Rattle.listing.specs.Text.{listing, refusedText, badMasksText}
+use Rattle.listing.specs.Buffers.{placed, placedLong}
 use Rattle.reply.specs.Reply.{plantPart, maskPart, masksOk, Outcome, inTurn, outcomeText, masksText, replyTo}
-use Rattle.reply.specs.Steps.{Parted, cameTo}
+use Rattle.reply.specs.Steps.{Parted, cameTo, Told}
 
 -- nothing is left past the end
 drop-all : (n : ℕ) (xs : List ℕ) → length xs ≤ n → drop n xs ≡ []
@@ -22,7 +23,8 @@ drop-all (suc n) [] h = refl
 drop-all (suc n) (x ∷ xs) h = drop-all n xs (omega arith)
 
 -- the input is cut: all of it is the plant's
-pub parted-cut : (input : List ℕ) (total : ℕ) → total ≡ word 6 input → length input < total → Parted input (length input)
+pub parted-cut : (input : List ℕ) (total : ℕ) → total ≡ word 6 input → length input < total
+    → Parted input (length input)
 unfolding plantPart maskPart
 parted-cut input total e h =
     let short : length input ≤ word 6 input = omega arith in
@@ -38,34 +40,52 @@ unfolding plantPart maskPart
 parted-whole input total e h =
     record { within = h; plant = ap (λ (n : ℕ). take n input) e; masks = ap (λ (n : ℕ). drop n input) e }
 
+-- the answer, case by case
+module _ (input : List ℕ) where
+  -- a refused plant
+  pub plant-refused : {r : ℕ} → plantFault (plantPart input) ≡ r → (r ≡ 0 → ⊥) → replyTo input ≡ refusedText r
+  unfolding replyTo
+  plant-refused {r} e h = rw (e, ne-eqb r 0 h)
+
+  module _ (accepted : plantFault (plantPart input) ≡ 0) where
+    -- bad masks after an accepted plant
+    pub masks-bad : masksOk (maskPart input) ≡ false → replyTo input ≡ badMasksText
+    unfolding replyTo masksText
+    masks-bad bad = rw (eq-eqb _ _ accepted, bad)
+
+    -- good masks
+    pub masks-good : masksOk (maskPart input) ≡ true
+        → replyTo input ≡ outcomeText (inTurn (plantOf (plantPart input)) (maskPart input))
+    unfolding replyTo masksText
+    masks-good good = rw (eq-eqb _ _ accepted, good)
+
+-- the same of the parts that the code takes
 module _ {input : List ℕ} {end : ℕ} (parted : Parted input end) where
   -- a refused plant
   pub reply-refused : {r : ℕ} → r ≡ plantFault (take end input) → (r ≡ 0 → ⊥) → replyTo input ≡ refusedText r
-  unfolding replyTo
-  reply-refused {r} e h =
-      let is : plantFault (plantPart input) ≡ r = sym (e ∙ ap plantFault (parted .plant)) in
-      rw (is, ne-eqb r 0 h)
+  reply-refused e h = plant-refused input (sym (e ∙ ap plantFault (parted .plant))) h
 
-  -- the rest of the input, as the code takes it
+  -- the rest of the input
   abbrev Rest : List ℕ
   Rest = take (length input - end) (drop end input)
 
+  -- it is the masks' part
   rest-masks : Rest ≡ maskPart input
   rest-masks = take-all (length input - end) (drop end input) (simp length-drop (omega arith)) ∙ parted .masks
 
   module _ (accepted : plantFault (take end input) ≡ 0) where
+    -- the plant's part is accepted
     fine : plantFault (plantPart input) ≡ 0
     fine = sym (ap plantFault (parted .plant)) ∙ accepted
 
-    -- bad masks after an accepted plant
+    -- bad masks
     pub reply-bad : masksOk Rest ≡ false → replyTo input ≡ badMasksText
-    unfolding replyTo masksText
-    reply-bad bad = rw (eq-eqb _ _ fine, ← rest-masks, bad)
+    reply-bad bad = masks-bad input fine (sym (ap masksOk rest-masks) ∙ bad)
 
     -- good masks
     pub reply-good : masksOk Rest ≡ true → replyTo input ≡ outcomeText (inTurn (plantOf (take end input)) Rest)
-    unfolding replyTo masksText
-    reply-good good = rw (eq-eqb _ _ fine, parted .plant, ← rest-masks, good)
+    reply-good good =
+        rw (parted .plant, rest-masks) (masks-good input fine (sym (ap masksOk rest-masks) ∙ good))
 
 -- the text of what the masks come to: a refusal
 pub text-refused : {t : Outcome} {r : ℕ} (b : List ℕ) → t ≡ cameTo r b → (r ≡ 0 → ⊥) → outcomeText t ≡ refusedText r
@@ -76,3 +96,8 @@ text-refused {t} {r} b e h = rw (e, ne-eqb r 0 h)
 pub text-listed : {t : Outcome} {r : ℕ} (b : List ℕ) → t ≡ cameTo r b → r ≡ 0 → outcomeText t ≡ listing b
 unfolding outcomeText cameTo
 text-listed {t} {r} b e h = rw (e, h)
+
+-- what is written of such a text
+pub told : {s m o o′ : List ℕ} {r : ℕ} (text : List ℕ) → outcomeText (inTurn (plantOf s) m) ≡ text
+    → (r ≡ placedLong text o) × (o′ ≡ placed text o) → Told s m o r o′
+told text e h = record { long = rw e (h .0); bytes = rw e (h .1) }

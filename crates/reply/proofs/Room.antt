@@ -1,5 +1,5 @@
 -- The answer lies within the buffer, and one of 200,000 bytes has room for every answer. Assumes nothing.
-use mathlib.Core.Path.{_≡_, refl, sym}
+use mathlib.Core.Path.{_≡_}
 use mathlib.Core.Logic.{inl, inr}
 use mathlib.Core.Bool.{Bool, true, false, not}
 use mathlib.Core.List.{List}
@@ -32,15 +32,17 @@ placed-within text o {r} e =
       | inr h ↦ let none = rw h at e in omega arith
     ]
 
--- a plant's refusal is at most 3
+-- a refusal of at most k, if there is one
 when-most : (t : Bool) (n k : ℕ) → n ≤ k → when t n ≤ k
 when-most true n k h = h
 when-most false n k h = omega arith
 
+-- the first of two refusals
 first-most : (a b k : ℕ) → a ≤ k → b ≤ k → firstOf a b ≤ k
 first-most zero b k h g = g
 first-most (suc a) b k h g = h
 
+-- a plant's refusal is at most 3
 fault-most : (s : List ℕ) → plantFault s ≤ 3
 unfolding plantFault
 fault-most s =
@@ -79,6 +81,7 @@ module _ (p : Plant) (ok : PlantOk p) where
           | inr e ↦ rw (e, withdrawing) (refused-most 6 (omega arith))
         ]
 
+    -- the masks in turn
     in-turn-most : length (outcomeText (inTurn p m)) ≤ 200000
     unfolding inTurn outcomeText
     in-turn-most =
@@ -87,6 +90,7 @@ module _ (p : Plant) (ok : PlantOk p) where
           | inr e ↦ rw e (refused-most 6 (omega arith))
         ]
 
+    -- the answer for an accepted plant
     masks-most : length (masksText p m) ≤ 200000
     unfolding masksText badMasksText
     masks-most =

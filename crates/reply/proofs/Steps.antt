@@ -3,27 +3,21 @@
 use mathlib.Core.Path.{_≡_, refl, sym, ap, _∙_}
 use mathlib.Core.Bool.{true}
 use mathlib.Core.List.{List, _++_, append-nil}
-use Prim.Native.Nat.{ℕ, zero, suc, _+_, _*_, _≤_}
-use native.Mathlib.Nat.{le-refl}
+use Prim.Native.Nat.{ℕ, zero, suc, _*_, _≤_}
 use native.Mathlib.Omega.{arith}
-use lib.ListN.{length, take, drop, replicate, length-replicate}
+use lib.ListN.{length, take, drop}
 use lib.Seq.{take-length, drop-length, length-take-le}
 use borrow.Author.Tests.{eq-eqb, le-leb}
 use Rattle.statements.specs.Plants.{Plant, firstOf, plantOf, plantFault, allowed}
 use Rattle.statements.specs.Books.{bookLong, bookFault, maskOk, lessMask, madeBook, withdrawnBook}
-use Rattle.statements.specs.Calls.{maskFault, bookRoom, dropRoom, makeFault, alike, withdrawFault, toldOf}
+use Rattle.statements.specs.Calls.{maskFault, bookRoom, dropRoom, alike, withdrawFault, toldOf}
 use Rattle.decoding.proofs.Masks.{less-ok}
 use Rattle.decoding.proofs.Faults.{plant-ok, when-iff, make-told, withdraw-told}
 use Rattle.demands.proofs.Afresh.{made-alike, made-accepted, withdrawn-afresh}
 use Rattle.books.specs.declared.Answer.{Answer}
 use Rattle.books.specs.Says.{over, MakeSays, WithdrawSays}
-use Rattle.books.proofs.Written.{over-back}
 use Rattle.books.proofs.Made.{states-few, entries-few, within-length}
-use Rattle.reply.specs.Steps.{Roomy, Ready, Standing, Stepped}
-
--- a new buffer's length
-filled : (n v : ℕ) → n ≤ length (replicate n v)
-filled n v = rw length-replicate (le-refl n)
+use Rattle.reply.specs.Steps.{Ready, Standing, Stepped}
 
 -- no refusal after the first
 first-none : (n : ℕ) → firstOf n 0 ≡ n
@@ -66,28 +60,17 @@ module _ (s : List ℕ) (fine : plantFault s ≡ 0) where
   pub drops-most : 2 * plantOf s .states ≤ 2048
   drops-most = omega (arith, states-few s fine)
 
--- new buffers are roomy
-pub new-roomy : {s : List ℕ} → plantFault s ≡ 0
-    → let zeros : ℕ → List ℕ = λ n. replicate n 0 in Roomy s (zeros 32784) (zeros 32784) (zeros 2048)
-new-roomy fine = record { plant = fine; first = filled 32784 0; second = filled 32784 0; drops = filled 2048 0 }
-
--- parts of roomy buffers
-module _ {s b o d : List ℕ} {long : ℕ} (roomy : Roomy s b o d)
-    (e : long ≡ bookLong (plantOf s .states) (plantOf s .goals)) where
-  pub first-wide : long ≤ length b
-  first-wide = omega (arith, long-most s (roomy .plant))
-
-  pub second-wide : long ≤ length o
-  second-wide = omega (arith, long-most s (roomy .plant))
-
-  pub roomy-ready : Ready s (take long b) (take long o) d
-  roomy-ready =
-      record {
-        plant = roomy .plant;
-        first = length-take-le long b first-wide ∙ e;
-        second = length-take-le long o second-wide ∙ e;
-        drops = omega (arith, drops-most s (roomy .plant));
-      }
+-- parts of buffers that have room for any book
+pub parts-ready : {s d : List ℕ} {long : ℕ} (b o : List ℕ) → plantFault s ≡ 0
+    → long ≡ bookLong (plantOf s .states) (plantOf s .goals) → 32784 ≡ length b → 32784 ≡ length o → 2048 ≡ length d
+    → Ready s (take long b) (take long o) d
+parts-ready {s} {d} {long} b o fine e hb ho hd =
+    record {
+      plant = fine;
+      first = length-take-le long b (omega (arith, long-most s fine)) ∙ e;
+      second = length-take-le long o (omega (arith, long-most s fine)) ∙ e;
+      drops = omega (arith, drops-most s fine);
+    }
 
 -- making in buffers of just the book's length
 module _ {s b o d : List ℕ} (ready : Ready s b o d) (mask : ℕ) {b′ : List ℕ} {r : Answer}
@@ -145,7 +128,7 @@ module _ {s b o d : List ℕ} (st : Standing s b o d) where
 
     module _ {o′ d′ : List ℕ} {r : Answer} (says : WithdrawSays s b gone o o′ d d′ r) where
       -- a refused step leaves the book
-      pub step-refused : (r .number ≡ 0 → ⊥) → Stepped s gone b o d (r .number) b o′ d′
+      pub step-refused : (r .number ≡ 0 → ⊥) → Stepped s gone b (r .number) b o′ d′
       step-refused h =
           record { number = says .number ∙ withdraw-number; book = λ z. absurd (h z); standing = λ z. absurd (h z) }
 
@@ -157,6 +140,7 @@ module _ {s b o d : List ℕ} (st : Standing s b o d) where
             st .ready .second ∙ sym (ap length fewer ∙ made-length (plantOf s) (lessMask (st .mask) gone)) in
             (rw (eq-eqb (r .number) 0 zero-is) at (says .book)) ∙ over-all _ o size
 
+        -- of the length of the plant's books
         written-long : length o′ ≡ bookLong (plantOf s .states) (plantOf s .goals)
         written-long = ap length (whole ∙ fewer) ∙ made-length (plantOf s) (lessMask (st .mask) gone)
 
@@ -166,7 +150,7 @@ module _ {s b o d : List ℕ} (st : Standing s b o d) where
 
         -- so that its copy is the next standing book
         pub step-done : {b′ : List ℕ} → b′ ≡ take (length o′) o′ ++ drop (length o′) b
-            → Stepped s gone b o d 0 b′ o′ d′
+            → Stepped s gone b 0 b′ o′ d′
         step-done {b′} e =
             let copied : b′ ≡ withdrawnBook (plantOf s) b gone =
             e ∙ rw (second-long, drop-length b, ← second-long, take-length o′) (append-nil o′ ∙ whole) in

@@ -1,15 +1,14 @@
 -- The masks in turn, one for each turn of the loop: what is left to withdraw from the book so far stands for the whole.
 -- Assumes nothing.
-use mathlib.Core.Path.{_≡_, refl, sym, ap, _∙_}
+use mathlib.Core.Path.{_≡_, sym, ap, _∙_}
 use mathlib.Core.Logic.{inl, inr}
 use mathlib.Core.Bool.{true, false}
 use mathlib.Core.List.{List}
 use Prim.Native.Nat.{ℕ, suc, _+_, _-_, _/_, _≤_, _<_}
 use native.Mathlib.Omega.{arith}
 use native.Mathlib.Numerals.{add-one}
-use lib.Dec.{leb}
 use lib.ListN.{length}
-use borrow.Author.Tests.{eq-eqb, ne-eqb, leb-true}
+use borrow.Author.Tests.{ne-eqb, leb-true}
 use Rattle.statements.specs.Plants.{Plant, plantOf}
 use Rattle.statements.specs.Books.{maskOk, madeBook, withdrawnBook}
 use Rattle.statements.specs.Calls.{maskFault}
@@ -17,7 +16,7 @@ use Rattle.sets.proofs.Tests.{decided}
 use Rattle.decoding.proofs.Faults.{and-iff}
 use Rattle.books.specs.declared.Answer.{Answer}
 use Rattle.books.specs.Says.{MakeSays}
-use Rattle.reply.specs.Reply.{masksOk, maskAt, Outcome, refused, lists, withdrawing, inTurn}
+use Rattle.reply.specs.Reply.{masksOk, maskAt, Outcome, refused, withdrawing, inTurn}
 use Rattle.reply.specs.Steps.{Ready, Standing, Stepped, cameTo}
 use Rattle.reply.proofs.Steps.{mask-fine, make-number, make-book}
 
@@ -68,6 +67,7 @@ module _ (p : Plant) where
 -- the first mask makes in buffers of just the book's length
 module _ {s b o d : List ℕ} (ready : Ready s b o d) (m : List ℕ) {mask : ℕ} {b′ : List ℕ} {r : Answer}
     (at : mask ≡ maskAt m 0) (says : MakeSays s mask b b′ r) where
+  -- the number returned is that of mask 0
   number-at-first : r .number ≡ maskFault (plantOf s) (maskAt m 0)
   number-at-first = make-number ready mask says ∙ ap (maskFault (plantOf s)) at
 
@@ -81,7 +81,8 @@ module _ {s b o d : List ℕ} (ready : Ready s b o d) (m : List ℕ) {mask : ℕ
   pub made-goes : r .number ≡ 0 → inTurn (plantOf s) m ≡ withdrawing (plantOf s) m (length m / 4 - 1) 1 b′
   made-goes h =
       first-makes (plantOf s) m (sym number-at-first ∙ h) ∙
-      ap (withdrawing (plantOf s) m (length m / 4 - 1) 1) (ap (madeBook (plantOf s)) (sym at) ∙ sym (make-book ready mask says h))
+      ap (withdrawing (plantOf s) m (length m / 4 - 1) 1)
+      (ap (madeBook (plantOf s)) (sym at) ∙ sym (make-book ready mask says h))
 
 -- before mask k: the masks from it on, withdrawn from the book that stands now, come to what all come to
 pub record Going (s m first : List ℕ) (count k : ℕ) (b o d : List ℕ) : Type 0 where
@@ -106,6 +107,7 @@ going-start {s} {b} m count good st e =
 
 module _ {s m first : List ℕ} {count k : ℕ} {b o d : List ℕ} (g : Going s m first count k b o d) where
   module _ (more : k < count) where
+    -- what all the masks after the first come to
     abbrev Whole : Outcome
     Whole = withdrawing (plantOf s) m (length m / 4 - 1) 1 first
 
@@ -115,7 +117,8 @@ module _ {s m first : List ℕ} {count k : ℕ} {b o d : List ℕ} (g : Going s 
         let e : count - k ≡ suc (count - suc k) = omega arith in
         g .same ∙ ap (λ (n : ℕ). withdrawing (plantOf s) m n k b) e
 
-    module _ {gone r : ℕ} {b′ o′ d′ : List ℕ} (mask : gone ≡ maskAt m k) (step : Stepped s gone b o d r b′ o′ d′) where
+    module _ {gone r : ℕ} {b′ o′ d′ : List ℕ} (mask : gone ≡ maskAt m k) (step : Stepped s gone b r b′ o′ d′) where
+      -- the number returned is that of mask k
       number-at : r ≡ maskFault (plantOf s) (maskAt m k)
       number-at = step .number ∙ ap (maskFault (plantOf s)) mask
 

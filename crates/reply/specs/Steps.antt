@@ -3,27 +3,21 @@
 use mathlib.Core.Path.{_≡_}
 use mathlib.Core.Bool.{true}
 use mathlib.Core.List.{List}
-use Prim.Native.Nat.{ℕ, _-_, _*_, _/_, _≤_}
+use Prim.Native.Nat.{ℕ, _*_, _≤_}
 use lib.Dec.{eqb}
 use lib.ListN.{length, take, drop}
 use Rattle.statements.specs.Sets.{pick}
-use Rattle.statements.specs.Plants.{Plant, plantOf, plantFault}
+use Rattle.statements.specs.Plants.{plantOf, plantFault}
 use Rattle.statements.specs.Books.{bookLong, maskOk, madeBook, withdrawnBook}
 use Rattle.statements.specs.Calls.{maskFault}
-use Rattle.reply.specs.Reply.{plantPart, maskPart, Outcome, refused, lists, withdrawing}
+use Rattle.listing.specs.Buffers.{placed, placedLong}
+use Rattle.reply.specs.Reply.{plantPart, maskPart, Outcome, refused, lists, inTurn, outcomeText}
 
 -- the input's first bytes, as many as given, are the plant's, and the rest are the masks'
 pub record Parted (input : List ℕ) (end : ℕ) : Type 0 where
   pub within : end ≤ length input
   pub plant : take end input ≡ plantPart input
   pub masks : drop end input ≡ maskPart input
-
--- the plant s is accepted, and the buffers have room for any book and any list of dropped states
-pub record Roomy (s b o d : List ℕ) : Type 0 where
-  pub plant : plantFault s ≡ 0
-  pub first : 32784 ≤ length b
-  pub second : 32784 ≤ length o
-  pub drops : 2048 ≤ length d
 
 -- the plant s is accepted, the two book buffers have just the length of its books, and the drop buffer has room
 pub record Ready (s b o d : List ℕ) : Type 0 where
@@ -40,7 +34,7 @@ pub record Standing (s b o d : List ℕ) : Type 0 where
   pub is-book : b ≡ madeBook (plantOf s) mask
 
 -- a step answers what the mask says, and leaves the book withdrawn from, or as it was; the buffers still have room
-pub record Stepped (s : List ℕ) (gone : ℕ) (b o d : List ℕ) (r : ℕ) (b′ o′ d′ : List ℕ) : Type 0 where
+pub record Stepped (s : List ℕ) (gone : ℕ) (b : List ℕ) (r : ℕ) (b′ o′ d′ : List ℕ) : Type 0 where
   pub number : r ≡ maskFault (plantOf s) gone
   pub book : r ≡ 0 → b′ ≡ withdrawnBook (plantOf s) b gone
   pub standing : r ≡ 0 → Standing s b′ o′ d′
@@ -48,3 +42,8 @@ pub record Stepped (s : List ℕ) (gone : ℕ) (b o d : List ℕ) (r : ℕ) (b�
 -- what withdrawing masks comes to, by the number returned and the book left
 unfoldable pub cameTo : ℕ → List ℕ → Outcome
 cameTo r b = pick (eqb r 0) (lists b) (refused r)
+
+-- what good masks on an accepted plant come to is written, as many bytes as returned
+pub record Told (s m o : List ℕ) (r : ℕ) (o′ : List ℕ) : Type 0 where
+  pub long : r ≡ placedLong (outcomeText (inTurn (plantOf s) m)) o
+  pub bytes : o′ ≡ placed (outcomeText (inTurn (plantOf s) m)) o

@@ -13,8 +13,8 @@ ghost use lib.ListN.{length};
 ghost use Rattle.statements.specs.Plants.{plantOf, plantFault};
 ghost use Rattle.statements.specs.Books.{bookLong};
 ghost use Rattle.listing.specs.Buffers.{placed, placedLong};
-ghost use Rattle.reply.specs.Reply.{masksOk, maskAt, withdrawing, inTurn, outcomeText, replyTo};
-ghost use Rattle.reply.specs.Steps.{Parted, Roomy, Ready, Standing, Stepped, cameTo};
+ghost use Rattle.reply.specs.Reply.{masksOk, maskAt, withdrawing, inTurn, replyTo};
+ghost use Rattle.reply.specs.Steps.{Parted, Ready, Standing, Stepped, cameTo, Told};
 
 // The bytes of 1 to 16 masks, none of them cut.
 fn masks_ok(masks: &[u8]) -> bool
@@ -34,7 +34,8 @@ fn mask_at(masks: &[u8], k: u8) -> u32
 // Withdraws a mask from a book of the plant, by way of a second buffer; returns the refusal's number or 0.
 fn withdraw(plant: &[u8], gone: u32, book: &mut [u8], next: &mut [u8], drops: &mut [u8]) -> u8
     requires { ⌜ Standing (now plant) (now book) (now next) (now drops) ⌝ }
-    ensures { λ r. ⌜ Stepped (now (plant .entry)) gone (now (book .entry)) (now (next .entry)) (now (drops .entry)) r (now (book .exit)) (now (next .exit)) (now (drops .exit)) ⌝ }
+    ensures { λ r. ⌜ Stepped (now (plant .entry)) gone (now (book .entry)) r
+        (now (book .exit)) (now (next .exit)) (now (drops .exit)) ⌝ }
 {
     let fault = withdraw_moves(plant, book, gone, next, drops).number;
     if fault != 0 {
@@ -54,7 +55,8 @@ fn withdraw_others(
 ) -> u8
     requires good { ⌜ masksOk (now masks) ≡ true ⌝ }
     requires standing { ⌜ Standing (now plant) (now book) (now next) (now drops) ⌝ }
-    ensures outcome { λ r. ⌜ withdrawing (plantOf (now (plant .entry))) (now (masks .entry)) (length (now (masks .entry)) / 4 - 1) 1 (now (book .entry)) ≡ cameTo r (now (book .exit)) ⌝ }
+    ensures { λ r. ⌜ withdrawing (plantOf (now (plant .entry))) (now (masks .entry))
+        (length (now (masks .entry)) / 4 - 1) 1 (now (book .entry)) ≡ cameTo r (now (book .exit)) ⌝ }
 {
     let count = (masks.len() / 4) as u8;
     let mut k: u8 = 1;
@@ -73,7 +75,7 @@ fn withdraw_others(
 fn in_turn(plant: &[u8], masks: &[u8], book: &mut [u8], next: &mut [u8], drops: &mut [u8]) -> u8
     requires good { ⌜ masksOk (now masks) ≡ true ⌝ }
     requires ready { ⌜ Ready (now plant) (now book) (now next) (now drops) ⌝ }
-    ensures outcome { λ r. ⌜ inTurn (plantOf (now (plant .entry))) (now (masks .entry)) ≡ cameTo r (now (book .exit)) ⌝ }
+    ensures { λ r. ⌜ inTurn (plantOf (now (plant .entry))) (now (masks .entry)) ≡ cameTo r (now (book .exit)) ⌝ }
 {
     let fault = make_book(plant, mask_at(masks, 0), book).number;
     if fault != 0 {
@@ -83,7 +85,7 @@ fn in_turn(plant: &[u8], masks: &[u8], book: &mut [u8], next: &mut [u8], drops: 
 }
 
 // Writes what good masks on an accepted plant come to, in buffers of just the book's length.
-fn reply_exact(
+fn reply_in(
     plant: &[u8],
     masks: &[u8],
     book: &mut [u8],
@@ -93,8 +95,7 @@ fn reply_exact(
 ) -> u32
     requires good { ⌜ masksOk (now masks) ≡ true ⌝ }
     requires ready { ⌜ Ready (now plant) (now book) (now next) (now drops) ⌝ }
-    ensures long { λ r. ⌜ r ≡ placedLong (outcomeText (inTurn (plantOf (now (plant .entry))) (now (masks .entry)))) (now (out .entry)) ⌝ }
-    ensures bytes { λ _. ⌜ now (out .exit) ≡ placed (outcomeText (inTurn (plantOf (now (plant .entry))) (now (masks .entry)))) (now (out .entry)) ⌝ }
+    ensures { λ r. ⌜ Told (now (plant .entry)) (now (masks .entry)) (now (out .entry)) r (now (out .exit)) ⌝ }
 {
     let fault = in_turn(plant, masks, book, next, drops);
     if fault != 0 {
@@ -110,42 +111,38 @@ fn book_long(plant: &[u8]) -> usize
     16 + 4 * ((number(plant, 0) as usize) * (number(plant, 2) as usize))
 }
 
-// Writes what good masks on an accepted plant come to, in buffers that are long enough for any book.
-fn reply_in(
-    plant: &[u8],
-    masks: &[u8],
-    book: &mut [u8],
-    next: &mut [u8],
-    drops: &mut [u8],
-    out: &mut [u8],
-) -> u32
+// Room for the longest book.
+fn book_buffer() -> [u8; 32784]
+    ensures { λ r. ⌜ 32784 ≡ length r ⌝ }
+{
+    [0; 32784]
+}
+
+// Room for the longest list of dropped states.
+fn drop_buffer() -> [u8; 2048]
+    ensures { λ r. ⌜ 2048 ≡ length r ⌝ }
+{
+    [0; 2048]
+}
+
+// Writes what good masks on an accepted plant come to.
+fn reply_masks(plant: &[u8], masks: &[u8], out: &mut [u8]) -> u32
+    requires accepted { ⌜ plantFault (now plant) ≡ 0 ⌝ }
     requires good { ⌜ masksOk (now masks) ≡ true ⌝ }
-    requires room { ⌜ Roomy (now plant) (now book) (now next) (now drops) ⌝ }
-    ensures long { λ r. ⌜ r ≡ placedLong (outcomeText (inTurn (plantOf (now (plant .entry))) (now (masks .entry)))) (now (out .entry)) ⌝ }
-    ensures bytes { λ _. ⌜ now (out .exit) ≡ placed (outcomeText (inTurn (plantOf (now (plant .entry))) (now (masks .entry)))) (now (out .entry)) ⌝ }
+    ensures { λ r. ⌜ Told (now (plant .entry)) (now (masks .entry)) (now (out .entry)) r (now (out .exit)) ⌝ }
 {
     let long = book_long(plant);
-    reply_exact(
+    let mut book = book_buffer();
+    let mut next = book_buffer();
+    let mut drops = drop_buffer();
+    reply_in(
         plant,
         masks,
         &mut book[..long],
         &mut next[..long],
-        drops,
+        &mut drops,
         out,
     )
-}
-
-// Writes what good masks on an accepted plant come to. The longest book has 32,784 bytes, the longest list 2,048.
-fn reply_masks(plant: &[u8], masks: &[u8], out: &mut [u8]) -> u32
-    requires accepted { ⌜ plantFault (now plant) ≡ 0 ⌝ }
-    requires good { ⌜ masksOk (now masks) ≡ true ⌝ }
-    ensures long { λ r. ⌜ r ≡ placedLong (outcomeText (inTurn (plantOf (now (plant .entry))) (now (masks .entry)))) (now (out .entry)) ⌝ }
-    ensures bytes { λ _. ⌜ now (out .exit) ≡ placed (outcomeText (inTurn (plantOf (now (plant .entry))) (now (masks .entry)))) (now (out .entry)) ⌝ }
-{
-    let mut book = [0u8; 32784];
-    let mut next = [0u8; 32784];
-    let mut drops = [0u8; 2048];
-    reply_in(plant, masks, &mut book, &mut next, &mut drops, out)
 }
 
 // Where the plant ends, and the masks begin.

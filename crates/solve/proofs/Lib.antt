@@ -1,8 +1,6 @@
 -- Laws that the proofs of the solver share.
 pub mod ReachTurns
 pub mod ReachSteps
-pub mod RoundsLists
-pub mod RoundsStore
 pub mod RoundsSets
 pub mod RoundsKept
 pub mod RoundsRows

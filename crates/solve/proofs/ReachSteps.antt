@@ -25,7 +25,7 @@ use Rattle.kept.proofs.Moves.{Sub, available-end, into-available, into-ends, ca
 use Rattle.kept.proofs.Reach.{steps-sifted, steps-later}
 use Rattle.solve.specs.Table.{below}
 use Rattle.solve.specs.Reached.{within, before, stepOf, reached, reachedBy, Column, Marks}
-use Rattle.solve.specs.Reaching.{without, Swept, Open, opened, nextMove}
+use Rattle.solve.specs.Reaching.{without, Swept, Open, opened, nextMove, stepMove}
 
 -- the move found first, in the goal and out of it
 module _ (p : Plant) (mask i : ℕ) (member : List ℕ) (x : ℕ) where
@@ -36,6 +36,26 @@ module _ (p : Plant) (mask i : ℕ) (member : List ℕ) (x : ℕ) where
   pub opened-no : inGoal p i x ≡ false → opened p mask i member x ≡ p .moves
   unfolding opened
   opened-no h = rw h
+
+-- the move that a step looks for, at step 0 and later
+module _ (p : Plant) (mask i : ℕ) (member waits : List ℕ) (x : ℕ) where
+  pub first-move : (steps : ℕ) → steps ≡ 0 → opened p mask i member x ≡ stepMove p mask i member waits steps x
+  unfolding stepMove
+  first-move steps e = rw e
+
+  pub later-move : (steps : ℕ) → (steps ≡ 0 → ⊥)
+      → moveInto p mask (below waits steps (p .states)) x ≡ stepMove p mask i member waits steps x
+  unfolding stepMove nextMove
+  later-move zero d = absurd (d refl)
+  later-move (suc n) d = refl
+
+-- it depends on no more of the waits than what was reached before
+pub same-move : (p : Plant) (mask i : ℕ) (member waits waits' : List ℕ) (steps x : ℕ)
+    → below waits' steps (p .states) ≡ below waits steps (p .states)
+    → stepMove p mask i member waits' steps x ≡ stepMove p mask i member waits steps x
+unfolding stepMove nextMove
+same-move p mask i member waits waits' zero x e = refl
+same-move p mask i member waits waits' (suc n) x e = ap (λ (ys : List ℕ). moveInto p mask ys x) e
 
 -- the first number at which a test holds, where it holds at j
 module _ (test : ℕ → Bool) (j : ℕ) (h : test j ≡ true) where
@@ -130,13 +150,12 @@ step-pick true false u u' v s old new = sym (new refl refl)
 step-pick false true u u' v s old new = absurd (not-both (s refl) refl)
 step-pick false false u u' v s old new = refl
 
--- the loop of steps: the last one done, and how many states were left before it
+-- the loop of steps: how many are done, and how many states were left before the last one
 pub record Going (p : Plant) (mask : ℕ) (all : List ℕ) (i steps before : ℕ)
     (waits listed rest : List ℕ) (count : ℕ) : Type 0 where
-  pub last : ℕ
-  pub steps-is : steps ≡ suc last
   pub stepped : Stepped p mask all i steps waits listed rest count
-  pub before-is : before ≡ length (without (λ x. isIn x (fewer p mask all i last)) all)
+  pub at-first : steps ≡ 0 → before ≡ suc count
+  pub before-is : (n : ℕ) → steps ≡ suc n → before ≡ length (without (λ x. isIn x (fewer p mask all i n)) all)
   pub few : before + steps ≤ length all + 1
 
 -- of a state reached, the same number
@@ -316,7 +335,7 @@ module _ (p : Plant) (mask : ℕ) (all : List ℕ) (i : ℕ) where
         small x false e = le-ltb lostMark n l
 
     -- step 0: the states in the goal that can go on
-    pub begun : {none : ℕ} {waits listed member waits' listed' rest' : List ℕ} {left' : ℕ} → p .states ≤ 1024
+    begun : {none : ℕ} {waits listed member waits' listed' rest' : List ℕ} {left' : ℕ} → p .states ≤ 1024
         → Marks all member → none ≡ p .moves → Reaching p mask all i 0 waits listed
         → Swept all (opened p mask i member) none 0 waits listed waits' listed' rest' left'
         → Stepped p mask all i 1 waits' listed' rest' left'
@@ -366,11 +385,20 @@ module _ (p : Plant) (mask : ℕ) (all : List ℕ) (i : ℕ) where
             ∙ sym
             (filter-test (λ y. isIn y (within p mask all i n) || can p mask (within p mask all i n) y) all x m ∙ rw e)
 
-    -- the states of the rest are open
-    pub open-all : (waits : List ℕ) → Open all (p .states) 0 waits
-    open-all waits = record { state = in-range; wait = λ x m. omega arith }
+    -- any step
+    stepped-next : (n : ℕ) (member waits listed rest waits' listed' rest' : List ℕ) (count left' : ℕ) → p .states ≤ 1024
+        → Marks all member → n ≤ lostMark → Stepped p mask all i n waits listed rest count
+        → let found = stepMove p mask i member waits n in
+        Swept (take count rest) found (p .moves) n waits listed waits' listed' rest' left'
+        → Stepped p mask all i (n + 1) waits' listed' rest' left'
+    unfolding stepMove
+    stepped-next zero member waits listed rest waits' listed' rest' count left' s k l r w =
+        begun s k refl (r .arrays) (rw (r .rest-is ∙ start-rest) at w)
+    stepped-next (suc n) member waits listed rest waits' listed' rest' count left' s k l r w =
+        swept n waits listed rest waits' listed' rest' count left' l r w
 
-    pub open-rest : (n count : ℕ) (waits listed rest : List ℕ) → n ≤ lostMark
+    -- the states of the rest are open
+    open-rest : (n count : ℕ) (waits listed rest : List ℕ) → n ≤ lostMark
         → Stepped p mask all i n waits listed rest count → Open (take count rest) (p .states) n waits
     unfolding without
     open-rest n count waits listed rest l r =
@@ -447,21 +475,30 @@ module _ (p : Plant) (mask : ℕ) (all : List ℕ) (i : ℕ) where
       same x m = first-same (λ k. isIn x (within p mask all i k)) n (suc n) (length all) m (omega arith) l
 
   -- where the loop begins
-  pub going-start : {waits listed rest : List ℕ} {count : ℕ} → Stepped p mask all i 1 waits listed rest count
-      → Going p mask all i 1 (length all) waits listed rest count
-  going-start r =
-      record { last = 0; steps-is = refl; stepped = r; before-is = ap length (sym start-rest); few = omega arith }
+  pub going-start : {waits listed rest : List ℕ} → p .states ≤ 1024 → waits ≡ replicate 1024 lostMark
+      → listed ≡ replicate 1024 lostMark → take (length all) rest ≡ all
+      → Going p mask all i 0 (length all + 1) waits listed rest (length all)
+  going-start {waits} {listed} {rest} s ew el e =
+      record {
+        stepped = record {
+          arrays = start waits listed s ew el;
+          rest-is = e ∙ sym start-rest;
+          count-is = ap length (sym start-rest);
+        };
+        at-first = λ _. add-one (length all);
+        before-is = λ n q. absurd (omega arith);
+        few = omega arith;
+      }
 
   -- a step reached nothing new
   pub going-end : {steps before count : ℕ} {waits listed rest : List ℕ}
       → Going p mask all i steps before waits listed rest count → before ≤ count → Column p mask all i waits listed
   unfolding fewer
-  going-end g h =
-      let n = g .last in
-      let r = rw (g .steps-is) at (g .stepped) in
-      let b = g .before-is in
+  going-end {steps = zero} g h = absurd (omega (arith, g .at-first refl))
+  going-end {steps = suc n} g h =
+      let r = g .stepped in
+      let b = g .before-is n refl in
       let f = g .few in
-      let q = g .steps-is in
       ended n _ _ (same-left n (omega (arith, r .count-is))) (omega arith) (r .arrays)
 
   -- no more are left than the set has
@@ -481,20 +518,19 @@ module _ (p : Plant) (mask : ℕ) (all : List ℕ) (i : ℕ) where
     pub going-open : Open (take count rest) (p .states) steps waits
     going-open = open-rest inside steps count waits listed rest (omega (arith, going-steps)) (g .stepped)
 
-    pub going-again : {none : ℕ} {waits' listed' rest' : List ℕ} {left' : ℕ} → none ≡ p .moves → count < before
-        → Swept (take count rest) (nextMove p mask waits steps) none steps waits listed waits' listed' rest' left'
+    pub going-again : {none : ℕ} {member waits' listed' rest' : List ℕ} {left' : ℕ} → none ≡ p .moves
+        → Marks all member → count < before
+        → let found = stepMove p mask i member waits steps in
+        Swept (take count rest) found none steps waits listed waits' listed' rest' left'
         → Going p mask all i (steps + 1) count waits' listed' rest' left'
-    going-again {none} {waits'} {listed'} {rest'} {left'} e h w =
-        let q = g .steps-is in
+    going-again {none} {member} {waits'} {listed'} {rest'} {left'} e k h w =
+        let fits : steps ≤ lostMark = omega (arith, going-steps) in
         let f = g .few in
-        let r : Stepped p mask all i (suc (g .last)) waits listed rest count = rw q at (g .stepped) in
         record {
-          last = suc (g .last);
-          steps-is = omega arith;
           stepped =
-              let fits : suc (g .last) ≤ lostMark = omega (arith, going-steps) in
-              let w' = rw (e, q) at w in
-              rw q (swept inside (g .last) waits listed rest waits' listed' rest' count left' fits r w');
-          before-is = r .count-is;
+              stepped-next inside steps member waits listed rest waits' listed' rest' count left' small k fits
+              (g .stepped) (rw e at w);
+          at-first = λ q. absurd (omega arith);
+          before-is = λ n q. let m : steps ≡ n = omega arith in rw m at (g .stepped .count-is);
           few = omega arith;
         }

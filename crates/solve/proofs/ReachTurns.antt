@@ -9,16 +9,15 @@ use native.Mathlib.Nat.{add-zero}
 use native.Mathlib.Numerals.{add-one}
 use native.Mathlib.Omega.{arith}
 use lib.Dec.{ltb, eqb}
-use lib.ListN.{length, getD, take, drop, set, replicate, length-append, length-set, getD-replicate}
+use lib.ListN.{length, getD, take, drop, set, length-append, length-set}
 use lib.Seq.{take-suc, take-suc-set, take-all, length-take-le, drop-set-lt, drop-drop, getD-take, getD-drop}
-use lib.Seq.{getD-set-same, getD-set-other, drop-length}
+use lib.Seq.{getD-set-same, getD-set-other}
 use borrow.Author.Tests.{le-ltb, ne-eqb}
 use Rattle.statements.specs.Sets.{pick, consIf, numbers, isIn, filter}
 use Rattle.sets.proofs.Tests.{same-number, and-left}
 use Rattle.sets.proofs.Members.{isIn-here, isIn-there, isIn-cases, isIn-none, filter-same, filter-length}
-use Rattle.statements.specs.Books.{lostMark}
+use Rattle.arrays.proofs.Fronts.{filter-snoc}
 use Rattle.solve.specs.Table.{below}
-use Rattle.solve.specs.Reached.{Marks}
 use Rattle.solve.specs.Reaching.{without, Written, Placed, Swept, Open}
 
 -- a list with one member more at its end
@@ -30,16 +29,6 @@ last-other : (y x : ℕ) (xs : List ℕ) → (y ≡ x → ⊥) → isIn y (xs ++
 unfolding isIn
 last-other y x [] d = rw (ne-eqb y x d) refl
 last-other y x (z ∷ zs) d = ap (λ (b : Bool). eqb y z || b) (last-other y x zs d)
-
-consIf-append : (b : Bool) (x : ℕ) (xs ys : List ℕ) → consIf b x (xs ++ ys) ≡ consIf b x xs ++ ys
-consIf-append true x xs ys = refl
-consIf-append false x xs ys = refl
-
-filter-last : (f : ℕ → Bool) (xs : List ℕ) (x : ℕ) → filter f (xs ++ (x ∷ [])) ≡ filter f xs ++ consIf (f x) x []
-unfolding filter
-filter-last f [] x = refl
-filter-last f (z ∷ zs) x =
-    ap (consIf (f z) z) (filter-last f zs x) ∙ consIf-append (f z) z (filter f zs) (consIf (f x) x [])
 
 -- what stands at a place of a list is a member
 pub isIn-at : (xs : List ℕ) (k : ℕ) → k < length xs → isIn (getD xs k 0) xs ≡ true
@@ -96,7 +85,7 @@ module _ (done : List ℕ) (test : ℕ → Bool) (value : ℕ → ℕ) (old new 
 without-last : (test : ℕ → Bool) (done : List ℕ) (x : ℕ)
     → without test (done ++ (x ∷ [])) ≡ without test done ++ consIf (not (test x)) x []
 unfolding without
-without-last test done x = filter-last (λ y. not (test y)) done x
+without-last test done x = filter-snoc (λ y. not (test y)) done x
 
 module _ (done rest : List ℕ) (x left : ℕ) (h : left < length rest) where
   rest-turn : (zs : List ℕ) (b : Bool) → take left rest ≡ zs
@@ -238,25 +227,3 @@ pub rest-at : (k count : ℕ) (rest rest' : List ℕ) → k < count → drop k r
 rest-at k count rest rest' h e =
     ap (λ (n : ℕ). getD rest' n 0) (sym (add-zero k)) ∙ sym (getD-drop k rest' 0 0) ∙ ap (λ (l : List ℕ). getD l 0 0) e
     ∙ getD-drop k rest 0 0 ∙ ap (λ (n : ℕ). getD rest n 0) (add-zero k) ∙ sym (getD-take count rest k 0 h)
-
--- an array that is filled up to its end
-pub filled : (k v : ℕ) (xs ys : List ℕ) → xs ≡ replicate k v ++ drop k ys → k ≤ length ys → length ys ≤ k
-    → xs ≡ replicate (length ys) v
-filled k v xs ys e l h =
-    let q : k ≡ length ys = omega arith in
-    e ∙ rw (q, drop-length ys, append-nil)
-
--- one more state of a set is marked, and all are
-pub mark-turn : (all old new : List ℕ) (k : ℕ) → Written (take k all) (λ _. true) (λ _. 0) old new → k < length all
-    → getD all k 0 < length new → Written (take (k + 1) all) (λ _. true) (λ _. 0) old (set new (getD all k 0) 0)
-mark-turn all old new k w l h =
-    rw (add-one, take-suc all k 0 l) (written-turn (take k all) (λ _. true) (λ _. 0) old new w (getD all k 0) h)
-
-pub mark-end : (all old new : List ℕ) (k : ℕ) → Written (take k all) (λ _. true) (λ _. 0) old new → length all ≤ k
-    → old ≡ replicate 1024 lostMark → Marks all new
-mark-end all old new k w l e =
-    let v = rw (take-all k all l, e) at w in
-    record {
-      inside = λ x h m. v .at x ∙ rw m;
-      outside = λ x h m. v .at x ∙ rw (m, getD-replicate 1024 x lostMark 0 h);
-    }

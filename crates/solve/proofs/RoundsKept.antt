@@ -2,11 +2,11 @@
 -- Assumes nothing.
 use mathlib.Core.Path.{_≡_, refl, sym, ap, _∙_, subst}
 use mathlib.Core.Bool.{Bool}
-use mathlib.Core.List.{List, _++_}
+use mathlib.Core.List.{List}
 use Prim.Native.Nat.{ℕ, zero, suc, _≤_}
 use native.Mathlib.Omega.{arith}
-use lib.ListN.{length, take, drop}
-use lib.Seq.{take-at, length-take-le}
+use lib.ListN.{length, take}
+use lib.Seq.{length-take-le}
 use Rattle.statements.specs.Sets.{numbers, iterate, filter}
 use Rattle.statements.specs.Plants.{Plant}
 use Rattle.statements.specs.Kept.{forcedAll, keptRound, keptWithin}
@@ -55,17 +55,13 @@ module _ (p : Plant) (mask : ℕ) (small : p .states ≤ 1024) (start all next :
     (set : Sifted (numbers (p .states) 0) (take kept all))
     (same : keptFrom p mask (take kept all) ≡ keptFrom p mask start)
     (in-next : left ≤ length next) (left-is : take left next ≡ forcedAll (p .goals) p mask (take kept all)) where
-  -- the set that a round leaves, put in the place of the one before
-  pub settle-more : (new : List ℕ) → new ≡ take left next ++ drop (length (take left next)) all
-      → Sifted (numbers (p .states) 0) (take left new) × (keptFrom p mask (take left new) ≡ keptFrom p mask start)
-  settle-more new e =
-      let is : take left new ≡ forcedAll (p .goals) p mask (take kept all) =
-      ap (take left) e
-      ∙ take-at (take left next) (drop (length (take left next)) all) left (length-take-le left next in-next)
-      ∙ left-is in (
-        subst (Sifted (numbers (p .states) 0)) (sym is) (round-sifted p mask (take kept all) set small),
-        ap (keptFrom p mask) is ∙ round-kept p mask (take kept all) set small ∙ same,
-      )
+  -- the set that a round leaves
+  pub settle-more : Sifted (numbers (p .states) 0) (take left next)
+      × (keptFrom p mask (take left next) ≡ keptFrom p mask start)
+  settle-more = (
+    subst (Sifted (numbers (p .states) 0)) (sym left-is) (round-sifted p mask (take kept all) set small),
+    ap (keptFrom p mask) left-is ∙ round-kept p mask (take kept all) set small ∙ same,
+  )
 
   module _ (in-all : kept ≤ length all) (uncut : kept ≤ left) where
     -- where a round cuts nothing the set is the kept states
@@ -96,14 +92,7 @@ begun p mask test states xs e is =
     )
 
 -- the rounds so far: a set of states with the kept states of the start
-pub record Settling (p : Plant) (mask : ℕ) (start all : List ℕ) (kept : ℕ) (next member waits listed rest : List ℕ)
-    : Type 0 where
-  pub all-long : length all ≡ 1024
-  pub kept-most : kept ≤ 1024
+pub record Settling (p : Plant) (mask : ℕ) (start all : List ℕ) (kept : ℕ) : Type 0 where
+  pub fits : kept ≤ length all
   pub set : Sifted (numbers (p .states) 0) (take kept all)
   pub same : keptFrom p mask (take kept all) ≡ keptFrom p mask start
-  pub next-long : length next ≡ 1024
-  pub member-long : length member ≡ 1024
-  pub waits-long : length waits ≡ 1024
-  pub listed-long : length listed ≡ 1024
-  pub rest-long : length rest ≡ 1024

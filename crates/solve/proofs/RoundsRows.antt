@@ -23,7 +23,7 @@ use Rattle.kept.proofs.Waits.{AllForced, steps-level, level-kept, wait-level, l
 use Rattle.solve.specs.Reached.{within, before, stepOf, reached, reachedBy}
 use Rattle.solve.specs.Rows.{Columns, keptFrom, entryNumbers, rowNumbers, writtenRows}
 use Rattle.solve.specs.Rounds.{Rest}
-use Rattle.solve.proofs.RoundsStore.{entry-room}
+use Rattle.arrays.proofs.Columns.{entry-room}
 
 -- a test that holds of every member leaves the list as it is
 filter-whole : (f : ℕ → Bool) (xs : List ℕ) → ((x : ℕ) → isIn x xs ≡ true → f x ≡ true) → filter f xs ≡ xs
@@ -156,10 +156,10 @@ module _ (p : Plant) (mask : ℕ) (kept : List ℕ) (some-goal : 0 < p .goals) (
 pub rows-done : (p : Plant) (mask : ℕ) (test : ℕ → Bool) (states goals : ℕ) (start old new : List ℕ) → 0 < p .goals
     → states ≡ p .states → goals ≡ p .goals → keptFrom p mask start ≡ keptWithin p mask test
     → Columns p mask (keptFrom p mask start) (p .goals) new
-    → (length new ≡ length old) × (drop (2 * (states * goals)) new ≡ drop (2 * (states * goals)) old)
+    → Rest (2 * (states * goals)) old new
     → 2 * (states * goals) ≤ length old → new ≡ writtenRows p mask (keptWithin p mask test) old
 rows-done p mask test states goals start old new some-goal es eg same columns rest room =
     let place : 2 * (states * goals) ≡ 2 * (p .states * p .goals) = rw (es, eg) in
     rows-written p mask (keptWithin p mask test) some-goal (kept-forced p mask test) old new
     (subst (λ (ys : List ℕ). Columns p mask ys (p .goals) new) same columns)
-    (record { long = rest .0; stays = subst (λ (k : ℕ). drop k new ≡ drop k old) place (rest .1) }) (omega arith)
+    (subst (λ (k : ℕ). Rest k old new) place rest) (omega arith)

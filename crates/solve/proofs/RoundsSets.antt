@@ -1,40 +1,64 @@
--- One round: the states whose wait is not the mark are those from which the goal is forced, so that cutting the others
--- goal by goal leaves `forcedAll`, and storing column by column leaves `Columns`. Assumes nothing.
-use mathlib.Core.Path.{_≡_, sym, ap, _∙_}
+-- One round: storing the reach goal by goal leaves `Columns`, and the states whose rows have a wait for each goal are
+-- those from which every goal is forced. Assumes nothing.
+use mathlib.Core.Path.{_≡_, refl, sym, ap, _∙_}
 use mathlib.Core.Logic.{⊎-elim}
-use mathlib.Core.Bool.{Bool, true, false}
-use mathlib.Core.List.{List, [], _∷_, _++_}
-use Prim.Native.Nat.{ℕ, zero, suc, _+_, _≤_, _<_}
-use native.Mathlib.Numerals.{add-one}
+use mathlib.Core.Bool.{Bool, true, false, _&&_, not}
+use mathlib.Core.List.{List}
+use Prim.Native.Nat.{ℕ, suc, _+_, _*_, _≤_, _<_}
+use native.Mathlib.Nat.{mul-le-mul-right}
 use native.Mathlib.Omega.{arith}
-use borrow.Author.Tests.{lt-ltb, le-ltb}
-use lib.Dec.{ltb}
-use lib.ListN.{length, getD, take}
-use lib.Seq.{getD-take, length-take-le, take-append-seam}
-use Rattle.statements.specs.Sets.{pick, numbers, isIn, filter}
+use borrow.Author.Tests.{eqb-false, not-true}
+use lib.Dec.{eqb, leb}
+use lib.ListN.{length, getD, take, replicate, length-replicate, getD-replicate}
+use lib.Seq.{length-take-le}
+use Rattle.statements.specs.Sets.{pick, every, numbers, isIn, filter}
 use Rattle.statements.specs.Plants.{Plant}
 use Rattle.statements.specs.Kept.{forced, forcedAll}
 use Rattle.statements.specs.Books.{lostMark}
-use Rattle.sets.proofs.Tests.{same-number}
-use Rattle.sets.proofs.Members.{Sifted, sifted-member, filter-same, length-numbers, numbers-holds, isIn-here}
-use Rattle.sets.proofs.Members.{isIn-there}
+use Rattle.sets.proofs.Tests.{decided, same-number, and-right}
+use Rattle.sets.proofs.Members.{Sifted, sifted-member, sifted-same, sifted-sub, filter-holds, filter-in}
+use Rattle.sets.proofs.Members.{length-numbers, numbers-holds, filter-length}
+use Rattle.sets.proofs.Numbers.{every-at}
 use Rattle.sets.proofs.First.{first-range}
-use Rattle.sets.proofs.Iterate.{sifted-length}
-use Rattle.kept.proofs.Kept.{forcedAll-holds}
-use Rattle.solve.specs.Reached.{within, stepOf, reached, Column}
-use Rattle.solve.specs.Rows.{Columns}
-use Rattle.solve.specs.Rounds.{survives, Stored}
+use Rattle.sets.proofs.Iterate.{sifted-length, sifted-longer}
+use Rattle.kept.proofs.Kept.{forcedAll-holds, forcedAll-in, forcedAll-sifted}
+use Rattle.arrays.specs.Lists.{front, fitting, zeroed, hasFlag, flagList, column, stored, stays, stayList}
+use Rattle.arrays.proofs.Fronts.{front-done}
+use Rattle.arrays.proofs.Marks.{zeroed-length, zeroed-in, zeroed-out}
+use Rattle.arrays.proofs.Columns.{stored-yes, column-is, column-stays, column-length, column-rest}
+use Rattle.arrays.proofs.Rows.{fitting-yes, flag-fits, stays-yes, stay-fits}
+use Rattle.solve.specs.Reached.{within, stepOf, reached, Column, Marks}
+use Rattle.solve.specs.Rows.{Columns, flagged}
+use Rattle.solve.specs.Rounds.{Rest}
 
--- what stands in a list is a member of it
-pub member-at : (xs : List ℕ) (k : ℕ) → k < length xs → isIn (getD xs k 0) xs ≡ true
-member-at [] k h = absurd (omega arith)
-member-at (x ∷ xs) zero h = isIn-here x xs
-member-at (x ∷ xs) (suc k) h = isIn-there (getD xs k 0) x xs (member-at xs k (omega arith))
+-- an array with zeros at the states of a set marks it
+marks-are : (all : List ℕ) → Marks all (zeroed all (replicate 1024 lostMark))
+marks-are all =
+    record {
+      inside = λ x h m. zeroed-in all (replicate 1024 lostMark) x (rw (length-replicate 1024 lostMark) h) m;
+      outside = λ x h m.
+          zeroed-out all (replicate 1024 lostMark) x m ∙ getD-replicate 1024 x lostMark 0 h;
+    }
 
--- an answer that is the mark or else below it
-picked : (b : Bool) (s : ℕ) → s < lostMark → ltb (pick b s lostMark) lostMark ≡ b
-picked true s h = lt-ltb s lostMark h
-picked false s h = le-ltb lostMark lostMark (omega arith)
+pub marked : (all new : List ℕ) → new ≡ zeroed all (replicate 1024 lostMark) → Marks all new × (length new ≡ 1024)
+marked all new e =
+    rw e (marks-are all, zeroed-length all (replicate 1024 lostMark) ∙ length-replicate 1024 lostMark)
+
+-- the whole set is copied to the front of an array
+pub copied : (all old new : List ℕ) → length all ≤ length old → new ≡ front (fitting all old) old
+    → take (length all) new ≡ all
+copied all old new h e =
+    front-done all old new (length all) h refl (e ∙ ap (λ (ys : List ℕ). front ys old) (fitting-yes all old h)) .1
+
+-- the room for the rows, by the plant's numbers
+pub same-room : (p : Plant) (states goals : ℕ) (entries : List ℕ) → states ≡ p .states → goals ≡ p .goals
+    → 2 * (states * goals) ≤ length entries → 2 * (p .states * p .goals) ≤ length entries
+same-room p states goals entries es eg h = rw (es, eg) at h
+
+-- an answer that is not the mark
+picked-yes : (b : Bool) (s : ℕ) → (pick b s lostMark ≡ lostMark → ⊥) → b ≡ true
+picked-yes true s h = refl
+picked-yes false s h = absurd (h refl)
 
 module _ (p : Plant) (mask : ℕ) (all : List ℕ) (set : Sifted (numbers (p .states) 0) all)
     (small : p .states ≤ 1024) where
@@ -46,65 +70,132 @@ module _ (p : Plant) (mask : ℕ) (all : List ℕ) (set : Sifted (numbers (p .st
   set-below x m =
       omega (arith, numbers-holds (p .states) 0 x (sifted-member (numbers (p .states) 0) all set x m))
 
-  -- what is left of it is in range
-  pub left-below : (i : ℕ) (next : List ℕ) (left : ℕ) → left ≤ length next → take left next ≡ forcedAll i p mask all
-      → (k : ℕ) → k < left → getD next k 0 < p .states
-  left-below i next left room e k h =
-      let x = getD (take left next) k 0 in
-      let at = member-at (take left next) k (omega (arith, length-take-le left next room)) in
-      rw (← getD-take left next k 0 h)
-      (set-below x (forcedAll-holds i p mask all x (ap (isIn x) (sym e) ∙ at) .0))
+  -- a state from which a goal is forced has a wait, and only such a state
+  has-wait : (i x : ℕ) → isIn x (forced p mask all i) ≡ true → reached p mask all i x ≡ lostMark → ⊥
+  unfolding reached stepOf
+  has-wait i x m e =
+      let steps = first-range (length all) 0 (λ n. isIn x (within p mask all i n)) in
+      let is : stepOf p mask all i x ≡ lostMark = rw m at e in
+      omega (arith, set-length)
 
-  module _ (i : ℕ) (waits listed : List ℕ) (column : Column p mask all i waits listed) where
-    -- a state has a wait exactly when the goal is forced from it
-    pub survives-forced : (x : ℕ) → x < p .states → survives waits x ≡ isIn x (forced p mask all i)
-    unfolding survives reached stepOf
-    survives-forced x h =
-        let steps = first-range (length all) 0 (λ n. isIn x (within p mask all i n)) in
-        rw (column .wait-is x h)
-        (picked (isIn x (forced p mask all i)) (stepOf p mask all i x) (omega (arith, set-length)))
+  wait-forced : (i x : ℕ) → (reached p mask all i x ≡ lostMark → ⊥) → isIn x (forced p mask all i) ≡ true
+  unfolding reached
+  wait-forced i x d = picked-yes (isIn x (forced p mask all i)) (stepOf p mask all i x) d
 
-    -- the states left after one goal more
-    pub left-more : filter (survives waits) (forcedAll i p mask all) ≡ forcedAll (i + 1) p mask all
-    unfolding forcedAll
-    left-more =
-        rw (add-one i)
-        (filter-same (survives waits) (λ x. isIn x (forced p mask all i)) (forcedAll i p mask all)
-        (λ x m. survives-forced x (set-below x (forcedAll-holds i p mask all x m .0))))
+  module _ (entries : List ℕ) (columns : Columns p mask all (p .goals) entries)
+      (room : 2 * (p .states * p .goals) ≤ length entries) where
+    -- the place of a wait, as the rows count
+    wait-at : (x i : ℕ) → x < p .states → i < p .goals
+        → getD entries (2 * (x * p .goals) + 2 * i) 0 ≡ reached p mask all i x
+    wait-at x i hx hi =
+        let at : 2 * (x * p .goals) + 2 * i ≡ 2 * (x * p .goals + i) = omega arith in
+        ap (λ (k : ℕ). getD entries k 0) at ∙ columns .wait-is x i hx hi
+
+    stays-forced : (x : ℕ) → x < p .states → stays entries (p .goals) x ≡ true → (i : ℕ) → i < p .goals
+        → isIn x (forced p mask all i) ≡ true
+    unfolding stays
+    stays-forced x hx e i hi =
+        let test : ℕ → Bool = λ j. not (eqb (getD entries (2 * (x * p .goals) + 2 * j) 0) lostMark) in
+        let each = and-right (leb (2 * (x * p .goals) + 2 * p .goals) (length entries)) (every (p .goals) 0 test) e in
+        let one = every-at (p .goals) 0 test each i (omega arith) (omega arith) in
+        wait-forced i x (λ q. eqb-false _ lostMark (not-true _ one) (wait-at x i hx hi ∙ q))
+
+    forced-stays : (x : ℕ) → x < p .states → ((i : ℕ) → i < p .goals → isIn x (forced p mask all i) ≡ true)
+        → stays entries (p .goals) x ≡ true
+    forced-stays x hx f =
+        let fits = mul-le-mul-right {m = suc x} {n = p .states} (p .goals) hx in
+        sym
+        (stays-yes entries (p .goals) x (omega arith)
+        (λ i hi q. has-wait i x (f i hi) (sym (wait-at x i hx hi) ∙ q)))
+
+    -- those that stay are the states from which every goal is forced
+    pub stay-forced : filter (stays entries (p .goals)) all ≡ forcedAll (p .goals) p mask all
+    stay-forced =
+        sifted-same (numbers (p .states) 0) (filter (stays entries (p .goals)) all) (forcedAll (p .goals) p mask all)
+        (sifted-sub (stays entries (p .goals)) (numbers (p .states) 0) all set)
+        (forcedAll-sifted (p .goals) p mask (numbers (p .states) 0) all set)
+        (λ x m.
+        let h = filter-holds (stays entries (p .goals)) all x m in
+        forcedAll-in (p .goals) p mask all x (h .0) (stays-forced x (set-below x (h .0)) (h .1)))
+        (λ x m.
+        let h = forcedAll-holds (p .goals) p mask all x m in
+        filter-in (stays entries (p .goals)) all x (h .0) (forced-stays x (set-below x (h .0)) (h .1)))
+
+  module _ (i : ℕ) (waits listed : List ℕ) (is : Column p mask all i waits listed) (old : List ℕ) (few : p .goals ≤ 8)
+      (more : i < p .goals) (in-waits : p .states ≤ length waits) (in-listed : p .states ≤ length listed)
+      (room : 2 * (p .states * p .goals) ≤ length old) where
+    -- what is stored is the column
+    stored-is : stored waits listed (p .states) (p .goals) i old ≡ column waits listed (p .states) (p .goals) i old
+    stored-is =
+        stored-yes waits listed (p .states) (p .goals) i old (omega arith) (omega arith) more in-waits in-listed room
 
     -- the columns with one goal more
-    pub columns-more : (states goals : ℕ) (old new : List ℕ) → states ≡ p .states → goals ≡ p .goals → i < p .goals
-        → Columns p mask all i old → Stored waits listed states goals i old new → Columns p mask all (i + 1) new
-    columns-more states goals old new es eg l columns written =
-        let stored = rw (es, eg) at written in
+    columns-more : Columns p mask all i old
+        → Columns p mask all (i + 1) (column waits listed (p .states) (p .goals) i old)
+    columns-more columns =
         record {
           wait-is = λ x j hx hj. ⊎-elim
-              (λ e. rw e (stored .wait-is x hx ∙ column .wait-is x hx))
-              (λ d. stored .wait-stays x j (omega arith) d ∙ columns .wait-is x j hx (omega arith))
+              (λ e. rw e (column-is waits listed (p .goals) i old more (p .states) x room hx .0 ∙ is .wait-is x hx))
+              (λ d. column-stays waits listed (p .goals) i old more (p .states) x j (omega arith) d .0
+              ∙ columns .wait-is x j hx (omega arith))
               (same-number j i);
           move-is = λ x j hx hj. ⊎-elim
-              (λ e. rw e (stored .move-is x hx ∙ column .move-is x hx))
-              (λ d. stored .move-stays x j (omega arith) d ∙ columns .move-is x j hx (omega arith))
+              (λ e. rw e (column-is waits listed (p .goals) i old more (p .states) x room hx .1 ∙ is .move-is x hx))
+              (λ d. column-stays waits listed (p .goals) i old more (p .states) x j (omega arith) d .1
+              ∙ columns .move-is x j hx (omega arith))
               (same-number j i);
         }
 
--- before the first goal every state is left, and there is no column
-pub left-start : (p : Plant) (mask : ℕ) (all rest : List ℕ) → take (length all) (all ++ rest) ≡ forcedAll 0 p mask all
-unfolding forcedAll
-left-start p mask all rest = take-append-seam all rest
+    -- and the rest of the entries
+    column-stored : Rest (2 * (p .states * p .goals)) old (column waits listed (p .states) (p .goals) i old)
+    column-stored =
+        record {
+          long = column-length waits listed (p .goals) i old (p .states);
+          stays = column-rest waits listed (p .goals) i old (p .states) (p .states) (omega arith) more;
+        }
 
+    -- both, by the numbers that the code has
+    pub store-more : (states goals : ℕ) → states ≡ p .states → goals ≡ p .goals
+        → (new : List ℕ) → new ≡ stored waits listed states goals i old
+        → (Columns p mask all i old → Columns p mask all (i + 1) new) × Rest (2 * (states * goals)) old new
+    store-more states goals es eg new e = rw (e, es, eg, stored-is) (columns-more, column-stored)
+
+-- what a cut leaves of the first states of an array
+pub cut-done : (p : Plant) (mask : ℕ) (all : List ℕ) (kept : ℕ) → kept ≤ length all
+    → Sifted (numbers (p .states) 0) (take kept all) → p .states ≤ 1024 → (entries : List ℕ)
+    → Columns p mask (take kept all) (p .goals) entries → (states goals : ℕ) → states ≡ p .states → goals ≡ p .goals
+    → 2 * (states * goals) ≤ length entries → p .goals ≤ 8 → (new : List ℕ) (left : ℕ)
+    → left ≡ length (stayList entries goals kept all) → new ≡ front (stayList entries goals kept all) all
+    → (left ≤ length new) × (take left new ≡ forcedAll (p .goals) p mask (take kept all))
+cut-done p mask all kept fits set small entries columns states goals es eg room few new left el en =
+    let space = same-room p states goals entries es eg room in
+    let is : stayList entries goals kept all ≡ forcedAll (p .goals) p mask (take kept all) =
+    ap (λ (g : ℕ). stayList entries g kept all) eg ∙ stay-fits entries (p .goals) kept all fits (omega arith)
+    ∙ stay-forced p mask (take kept all) set small entries columns space in
+    let few-left = sifted-longer (numbers (p .states) 0) (forcedAll (p .goals) p mask (take kept all)) (take kept all)
+    (forcedAll-sifted (p .goals) p mask (numbers (p .states) 0) (take kept all) set) set
+    (λ x m. forcedAll-holds (p .goals) p mask (take kept all) x m .0) in
+    front-done (forcedAll (p .goals) p mask (take kept all)) all new left
+    (omega (arith, few-left, length-take-le kept all fits)) (el ∙ ap length is)
+    (en ∙ ap (λ (ys : List ℕ). front ys all) is)
+
+-- the flagged states are listed at the front of an array
+pub flags-done : (start : List ℕ) (states : ℕ) (all new : List ℕ) (count : ℕ) → states ≤ length start
+    → states ≤ length all → states ≤ 65536 → count ≡ length (flagList start states all)
+    → new ≡ front (flagList start states all) all
+    → (count ≤ length new) × (take count new ≡ filter (flagged start) (numbers states 0))
+unfolding hasFlag flagged
+flags-done start states all new count a b c ec en =
+    let is = flag-fits start states all a b c in
+    let few = filter-length (hasFlag start) (numbers states 0) in
+    front-done (filter (hasFlag start) (numbers states 0)) all new count (omega (arith, length-numbers states 0))
+    (ec ∙ ap length is) (en ∙ ap (λ (ys : List ℕ). front ys all) is)
+
+-- before the first goal there is no column
 pub columns-start : (p : Plant) (mask : ℕ) (all entries : List ℕ) → Columns p mask all 0 entries
 columns-start p mask all entries =
     record { wait-is = λ x j hx hj. absurd (omega arith); move-is = λ x j hx hj. absurd (omega arith) }
 
--- a round so far: the states left, and the columns written, for the first goals
-pub record Rounding (p : Plant) (mask : ℕ) (all : List ℕ) (goal left : ℕ) (next waits listed rest entries : List ℕ)
-    : Type 0 where
-  pub range : goal ≤ p .goals
-  pub next-long : length next ≡ 1024
-  pub waits-long : length waits ≡ 1024
-  pub listed-long : length listed ≡ 1024
-  pub rest-long : length rest ≡ 1024
-  pub left-most : left ≤ 1024
-  pub left-is : take left next ≡ forcedAll goal p mask all
-  pub columns : Columns p mask all goal entries
+-- what stays over two writings
+pub rest-then : {n : ℕ} {a b c : List ℕ} → Rest n a b → Rest n b c → Rest n a c
+rest-then r s = record { long = s .long ∙ r .long; stays = s .stays ∙ r .stays }

@@ -2,7 +2,7 @@
 use mathlib.Core.Path.{_≡_}
 use mathlib.Core.Bool.{Bool, true, _&&_, not}
 use mathlib.Core.List.{List}
-use Prim.Native.Nat.{ℕ, _+_, _≤_, _<_}
+use Prim.Native.Nat.{ℕ, zero, suc, _+_, _≤_, _<_}
 use lib.Dec.{ltb}
 use lib.ListN.{length, getD, take, set}
 use Rattle.statements.specs.Sets.{pick, isIn, filter}
@@ -45,3 +45,8 @@ opened p mask i member x = pick (inGoal p i x) (moveInto p mask (below member 1 
 -- the move of a state into what was reached in fewer steps
 unfoldable pub nextMove : Plant → ℕ → List ℕ → ℕ → ℕ → ℕ
 nextMove p mask waits steps x = moveInto p mask (below waits steps (p .states)) x
+
+-- the move that a step looks for: at step 0 from the goal into the set, later into what was reached in fewer steps
+unfoldable pub stepMove : Plant → ℕ → ℕ → List ℕ → List ℕ → ℕ → ℕ → ℕ
+stepMove p mask i member waits zero x = opened p mask i member x
+stepMove p mask i member waits (suc n) x = nextMove p mask waits (suc n) x

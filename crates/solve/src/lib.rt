@@ -3,37 +3,19 @@ mod reach;
 mod rounds;
 mod table;
 
+use arrays::flags;
 use format::plant_fault;
 use format::word::number;
-use rounds::rounds;
+use rounds::settle;
 use table::load;
 ghost use mathlib.Core.Path.{_≡_};
 ghost use Prim.Native.Nat.{_*_, _≤_};
-ghost use lib.ListN.{length, take};
-ghost use Rattle.statements.specs.Sets.{numbers, filter};
+ghost use lib.ListN.{length};
 ghost use Rattle.statements.specs.Plants.{plantOf, plantFault};
 ghost use Rattle.statements.specs.Kept.{keptWithin};
 ghost use Rattle.solve.specs.Rows.{flagged, writtenRows, solvedCount, solvedRows};
 
-// The states with a flag, rising.
-fn begin(start: &[u8], states: usize, all: &mut [u16]) -> usize
-    requires room { ⌜ (states ≤ length (now start)) × (states ≤ length (now all)) × (states ≤ 1024) ⌝ }
-    ensures { λ r. ⌜ (r ≤ states) × (take r (now (all .exit)) ≡ filter (flagged (now (start .entry))) (numbers states 0)) ⌝ }
-    ensures lengths { λ _. ⌜ length (now (all .exit)) ≡ length (now (all .entry)) ⌝ }
-{
-    let mut x = 0;
-    let mut count = 0;
-    while x < states {
-        if start[x] == 1 {
-            all[count] = x as u16;
-            count += 1;
-        }
-        x += 1;
-    }
-    count
-}
-
-// Loads the table, begins and does the rounds, over arrays lent.
+// Loads the table, lists the flagged states and does the rounds from them, over arrays lent.
 fn work(
     plant: &[u8],
     mask: u32,
@@ -57,8 +39,8 @@ fn work(
 {
     load(plant, mask, groups, starts, moves, ends);
     let none = number(plant, 1);
-    let count = begin(start, states, all);
-    rounds(
+    let count = flags(start, states, all);
+    settle(
         plant,
         mask,
         groups,

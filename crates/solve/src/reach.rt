@@ -1,46 +1,24 @@
 // The reach to a goal within a set of states: which states can be forced to it, in how many steps, by which move.
 use crate::table::search;
+use arrays::copy;
+use arrays::store;
 use format::plant::in_goal;
 ghost use mathlib.Core.Path.{_≡_};
-ghost use mathlib.Core.Bool.{true};
-ghost use Prim.Native.Nat.{ℕ, _<_, _≤_};
+ghost use Prim.Native.Nat.{_+_, _*_, _<_, _≤_};
 ghost use lib.ListN.{length, replicate, take};
-ghost use Rattle.statements.specs.Sets.{numbers, isIn};
+ghost use Rattle.statements.specs.Sets.{numbers};
 ghost use Rattle.statements.specs.Plants.{plantOf, plantFault};
+ghost use Rattle.statements.specs.Books.{lostMark};
 ghost use Rattle.sets.proofs.Members.{Sifted};
 ghost use Rattle.solve.specs.Table.{Table};
 ghost use Rattle.solve.specs.Reached.{Marks, Column};
-ghost use Rattle.solve.specs.Reaching.{Placed, Swept, Open, opened, nextMove};
+ghost use Rattle.solve.specs.Reaching.{Placed, Swept, Open, stepMove};
+ghost use Rattle.solve.specs.Rows.{Columns};
+ghost use Rattle.solve.specs.Rounds.{Rest};
 
-// Puts a number everywhere.
-pub(crate) fn fill(a: &mut [u16], value: u16)
-    ensures { λ _. ⌜ now (a .exit) ≡ replicate (length (now (a .entry))) value ⌝ }
-{
-    let mut k = 0;
-    while k < a.len() {
-        a[k] = value;
-        k += 1;
-    }
-}
-
-// Marks the states of a set with 0 and all others as lost.
-pub(crate) fn mark(all: &[u16], member: &mut [u16])
-    requires room { ⌜ length (now member) ≡ 1024 ⌝ }
-    requires states { ⌜ ((x : ℕ) → isIn x (now all) ≡ true → x < 1024) ⌝ }
-    ensures marked { λ _. ⌜ Marks (now (all .entry)) (now (member .exit)) ⌝ }
-    ensures lengths { λ _. ⌜ length (now (member .exit)) ≡ 1024 ⌝ }
-{
-    fill(member, 65535);
-    let mut k = 0;
-    while k < all.len() {
-        let x = all[k] as usize;
-        member[x] = 0;
-        k += 1;
-    }
-}
-
-// The move of a state that is in the goal, into the set; `none` if there is none.
-fn opening(
+// The move that a step looks for at a state: at step 0 from the goal into the set, later into what was reached in fewer
+// steps; `none` if there is none.
+fn next(
     plant: &[u8],
     mask: u32,
     groups: &[u16],
@@ -50,15 +28,31 @@ fn opening(
     none: u16,
     member: &[u16],
     goal: u32,
+    waits: &[u16],
+    steps: u16,
     state: u16,
 ) -> u16
     requires accepted { ⌜ plantFault (now plant) ≡ 0 ⌝ }
     requires table { ⌜ Table (plantOf (now plant)) mask (now groups) (now starts) (now moves) (now ends) ⌝ }
     requires none_is { ⌜ none ≡ plantOf (now plant) .moves ⌝ }
-    requires member_long { ⌜ plantOf (now plant) .states ≤ length (now member) ⌝ }
+    requires room { ⌜ (plantOf (now plant) .states ≤ length (now member)) × (plantOf (now plant) .states ≤ length (now waits)) ⌝ }
     requires in_range { ⌜ state < plantOf (now plant) .states ⌝ }
-    ensures { λ r. ⌜ r ≡ opened (plantOf (now (plant .entry))) mask goal (now (member .entry)) state ⌝ }
+    ensures { λ r. ⌜ r ≡ stepMove (plantOf (now (plant .entry))) mask goal (now (member .entry)) (now (waits .entry)) steps state ⌝ }
 {
+    if steps != 0 {
+        return search(
+            plant,
+            mask,
+            groups,
+            starts,
+            moves,
+            ends,
+            none,
+            waits,
+            steps,
+            state,
+        );
+    }
     if in_goal(plant, goal, state as u32) {
         return search(
             plant,
@@ -101,52 +95,7 @@ fn place(
     }
 }
 
-// The states of the set that are in the goal and can go on within the set are reached in 0 steps; the rest is listed.
-fn begin(
-    plant: &[u8],
-    mask: u32,
-    groups: &[u16],
-    starts: &[u16],
-    moves: &[u16],
-    ends: &[u16],
-    none: u16,
-    all: &[u16],
-    member: &[u16],
-    goal: u32,
-    waits: &mut [u16],
-    listed: &mut [u16],
-    rest: &mut [u16],
-) -> usize
-    requires accepted { ⌜ plantFault (now plant) ≡ 0 ⌝ }
-    requires table { ⌜ Table (plantOf (now plant)) mask (now groups) (now starts) (now moves) (now ends) ⌝ }
-    requires none_is { ⌜ none ≡ plantOf (now plant) .moves ⌝ }
-    requires todo { ⌜ Open (now all) (plantOf (now plant) .states) 0 (now waits) ⌝ }
-    requires room { ⌜ (plantOf (now plant) .states ≤ length (now member)) × (plantOf (now plant) .states ≤ length (now waits)) × (plantOf (now plant) .states ≤ length (now listed)) × (length (now all) ≤ length (now rest)) ⌝ }
-    ensures { λ r. ⌜ Swept (now (all .entry)) (opened (plantOf (now (plant .entry))) mask goal (now (member .entry))) none 0 (now (waits .entry)) (now (listed .entry)) (now (waits .exit)) (now (listed .exit)) (now (rest .exit)) r ⌝ }
-{
-    let mut k = 0;
-    let mut left = 0;
-    while k < all.len() {
-        let state = all[k];
-        let found = opening(
-            plant,
-            mask,
-            groups,
-            starts,
-            moves,
-            ends,
-            none,
-            member,
-            goal,
-            state,
-        );
-        left = place(found, none, state, 0, left, waits, listed, rest);
-        k += 1;
-    }
-    left
-}
-
-// One step: the states of the rest with a move wholly into what was reached in fewer steps.
+// One step: the states of the rest for which a move is found are reached; the others stay the rest.
 fn sweep(
     plant: &[u8],
     mask: u32,
@@ -155,6 +104,8 @@ fn sweep(
     moves: &[u16],
     ends: &[u16],
     none: u16,
+    member: &[u16],
+    goal: u32,
     count: usize,
     steps: u16,
     waits: &mut [u16],
@@ -165,14 +116,14 @@ fn sweep(
     requires table { ⌜ Table (plantOf (now plant)) mask (now groups) (now starts) (now moves) (now ends) ⌝ }
     requires none_is { ⌜ none ≡ plantOf (now plant) .moves ⌝ }
     requires todo { ⌜ Open (take count (now rest)) (plantOf (now plant) .states) steps (now waits) ⌝ }
-    requires room { ⌜ (plantOf (now plant) .states ≤ length (now waits)) × (plantOf (now plant) .states ≤ length (now listed)) × (count ≤ length (now rest)) ⌝ }
-    ensures { λ r. ⌜ Swept (take count (now (rest .entry))) (nextMove (plantOf (now (plant .entry))) mask (now (waits .entry)) steps) none steps (now (waits .entry)) (now (listed .entry)) (now (waits .exit)) (now (listed .exit)) (now (rest .exit)) r ⌝ }
+    requires room { ⌜ (plantOf (now plant) .states ≤ length (now member)) × (plantOf (now plant) .states ≤ length (now waits)) × (plantOf (now plant) .states ≤ length (now listed)) × (count ≤ length (now rest)) ⌝ }
+    ensures { λ r. ⌜ Swept (take count (now (rest .entry))) (stepMove (plantOf (now (plant .entry))) mask goal (now (member .entry)) (now (waits .entry)) steps) none steps (now (waits .entry)) (now (listed .entry)) (now (waits .exit)) (now (listed .exit)) (now (rest .exit)) r ⌝ }
 {
     let mut k = 0;
     let mut left = 0;
     while k < count {
         let state = rest[k];
-        let found = search(
+        let found = next(
             plant,
             mask,
             groups,
@@ -180,6 +131,8 @@ fn sweep(
             moves,
             ends,
             none,
+            member,
+            goal,
             waits,
             steps,
             state,
@@ -190,8 +143,8 @@ fn sweep(
     left
 }
 
-// The whole reach: steps until one reaches no further state.
-pub(crate) fn reach(
+// The whole reach, over arrays in which nothing is reached yet: steps until one reaches no further state.
+fn reach(
     plant: &[u8],
     mask: u32,
     groups: &[u16],
@@ -210,31 +163,14 @@ pub(crate) fn reach(
     requires table { ⌜ Table (plantOf (now plant)) mask (now groups) (now starts) (now moves) (now ends) ⌝ }
     requires none_is { ⌜ none ≡ plantOf (now plant) .moves ⌝ }
     requires states { ⌜ Sifted (numbers (plantOf (now plant) .states) 0) (now all) ⌝ }
-    requires marked { ⌜ Marks (now all) (now member) ⌝ }
-    requires room { ⌜ (length (now member) ≡ 1024) × (length (now waits) ≡ 1024) × (length (now listed) ≡ 1024) × (length (now rest) ≡ 1024) ⌝ }
-    requires is_goal { ⌜ goal < plantOf (now plant) .goals ⌝ }
-    ensures column { λ _. ⌜ Column (plantOf (now (plant .entry))) mask (now (all .entry)) goal (now (waits .exit)) (now (listed .exit)) ⌝ }
-    ensures lengths { λ _. ⌜ (length (now (waits .exit)) ≡ 1024) × (length (now (listed .exit)) ≡ 1024) × (length (now (rest .exit)) ≡ 1024) ⌝ }
+    requires marked { ⌜ Marks (now all) (now member) × (length (now member) ≡ 1024) ⌝ }
+    requires none_yet { ⌜ (now waits ≡ replicate 1024 lostMark) × (now listed ≡ replicate 1024 lostMark) ⌝ }
+    requires todo { ⌜ (length (now rest) ≡ 1024) × (take (length (now all)) (now rest) ≡ now all) ⌝ }
+    ensures { λ _. ⌜ Column (plantOf (now (plant .entry))) mask (now (all .entry)) goal (now (waits .exit)) (now (listed .exit)) ⌝ }
 {
-    fill(waits, 65535);
-    fill(listed, 65535);
-    let mut count = begin(
-        plant,
-        mask,
-        groups,
-        starts,
-        moves,
-        ends,
-        none,
-        all,
-        member,
-        goal,
-        waits,
-        listed,
-        rest,
-    );
-    let mut steps: u16 = 1;
-    let mut before = all.len();
+    let mut count = all.len();
+    let mut before = count + 1;
+    let mut steps: u16 = 0;
     while count < before {
         before = count;
         count = sweep(
@@ -245,6 +181,8 @@ pub(crate) fn reach(
             moves,
             ends,
             none,
+            member,
+            goal,
             count,
             steps,
             waits,
@@ -253,4 +191,52 @@ pub(crate) fn reach(
         );
         steps += 1;
     }
+}
+
+// The reach to a goal, written as a column of the entries.
+pub(crate) fn column(
+    plant: &[u8],
+    mask: u32,
+    groups: &[u16],
+    starts: &[u16],
+    moves: &[u16],
+    ends: &[u16],
+    none: u16,
+    states: usize,
+    goals: usize,
+    all: &[u16],
+    member: &[u16],
+    goal: usize,
+    entries: &mut [u16],
+)
+    requires accepted { ⌜ plantFault (now plant) ≡ 0 ⌝ }
+    requires table { ⌜ Table (plantOf (now plant)) mask (now groups) (now starts) (now moves) (now ends) ⌝ }
+    requires none_is { ⌜ none ≡ plantOf (now plant) .moves ⌝ }
+    requires sizes { ⌜ (states ≡ plantOf (now plant) .states) × (goals ≡ plantOf (now plant) .goals) ⌝ }
+    requires set { ⌜ Sifted (numbers (plantOf (now plant) .states) 0) (now all) ⌝ }
+    requires marked { ⌜ Marks (now all) (now member) × (length (now member) ≡ 1024) ⌝ }
+    requires room { ⌜ (goal < goals) × (2 * (states * goals) ≤ length (now entries)) ⌝ }
+    ensures columns { λ _. ⌜ (Columns (plantOf (now (plant .entry))) mask (now (all .entry)) goal (now (entries .entry)) → Columns (plantOf (now (plant .entry))) mask (now (all .entry)) (goal + 1) (now (entries .exit))) ⌝ }
+    ensures rest_stays { λ _. ⌜ Rest (2 * (states * goals)) (now (entries .entry)) (now (entries .exit)) ⌝ }
+{
+    let mut waits = [65535u16; 1024];
+    let mut listed = [65535u16; 1024];
+    let mut rest = [0u16; 1024];
+    copy(all, &mut rest);
+    reach(
+        plant,
+        mask,
+        groups,
+        starts,
+        moves,
+        ends,
+        none,
+        all,
+        member,
+        goal as u32,
+        &mut waits,
+        &mut listed,
+        &mut rest,
+    );
+    store(&waits, &listed, states, goals, goal, entries);
 }

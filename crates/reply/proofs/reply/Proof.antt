@@ -1,4 +1,5 @@
--- `reply::reply` meets its contract: the plant is refused, its masks are bad, or they are taken in turn. Assumes nothing.
+-- `reply::reply` meets its contract: the plant is refused, its masks are bad, or they are taken in turn.
+-- Assumes nothing.
 use mathlib.Core.Path.{sym, _∙_}
 use lib.Seq.{length-take-le}
 use borrow.Author.Tests.{not-true, not-false}
@@ -60,8 +61,10 @@ returns-2 c =
 reply-masks-requires : tie.Need-reply-masks-requires
 reply-masks-requires c κs =
     let t = c .before in
-    let e = t .before .before .before in
-    (sym (e .before .plant-fault .ensures) ∙ e .if1 .left, sym (t .before .masks-ok .ensures) ∙ not-false _ (t .if2 .left))
+    let e = t .before .before .before in (
+      sym (e .before .plant-fault .ensures) ∙ e .if1 .left,
+      sym (t .before .masks-ok .ensures) ∙ not-false _ (t .if2 .left),
+    )
 
 same-length-3 : tie.Need-same-length-3
 same-length-3 c = search needs
@@ -74,7 +77,7 @@ returns-3 c =
     rw
     (reply-good (f .before .before .plant-end .ensures) (sym (f .plant-fault .ensures) ∙ e .if1 .left)
     (sym (t .before .masks-ok .ensures) ∙ not-false _ (t .if2 .left)))
-    (c .before .before .reply-masks .ensures)
+    (c .before .before .reply-masks .ensures .long, c .before .before .reply-masks .ensures .bytes)
 
 pub reply-spec : {M : Type 1} → statement M
 reply-spec =

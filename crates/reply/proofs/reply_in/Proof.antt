@@ -1,37 +1,15 @@
--- `reply::reply_in` meets its contract: it lends parts of just the length of the plant's books. Assumes nothing.
-use mathlib.Core.Path.{sym}
-use lib.Seq.{length-take-le}
-use Rattle.reply.proofs.Steps.{first-wide, second-wide, roomy-ready}
+-- `reply::reply_in` meets its contract: what the masks come to is written, a refusal or the last book.
+-- Assumes nothing.
+use Rattle.reply.proofs.Parts.{text-refused, text-listed, told}
 use borrow.Author.Needs.{needs}
 use Rattle.reply.proofs.reply_in.Statement.{statement}
 use Rattle.reply.proofs.reply_in.Tie as tie
 
-book-long-requires : tie.Need-book-long-requires
-book-long-requires c κs = search needs
+in-turn-requires : tie.Need-in-turn-requires
+in-turn-requires c κs = search needs
 
--- the function's entry
-abbrev start : tie.After-book-long → tie.Start
-start c = c .before .before .before .before .before .before .before
-
-slice-relend-prefix-reply-exact : tie.Need-slice-relend-prefix-reply-exact
-slice-relend-prefix-reply-exact c = first-wide (start c .pre .1) (c .book-long .ensures)
-
-slice-aggregate-reply-exact : tie.Need-slice-aggregate-reply-exact
-slice-aggregate-reply-exact c =
-    sym (length-take-le _ _ (first-wide (start (c .before) .pre .1) (c .before .book-long .ensures)))
-
-slice-relend-prefix-reply-exact-2 : tie.Need-slice-relend-prefix-reply-exact-2
-slice-relend-prefix-reply-exact-2 c = second-wide (start (c .before) .pre .1) (c .before .book-long .ensures)
-
-slice-aggregate-reply-exact-2 : tie.Need-slice-aggregate-reply-exact-2
-slice-aggregate-reply-exact-2 c =
-    let k = c .before .before in
-    sym (length-take-le _ _ (second-wide (start k .pre .1) (k .book-long .ensures)))
-
-reply-exact-requires : tie.Need-reply-exact-requires
-reply-exact-requires c κs =
-    let k = c .before .before .before .before in
-    (start k .pre .0, roomy-ready (start k .pre .1) (k .book-long .ensures))
+refused-text-requires : tie.Need-refused-text-requires
+refused-text-requires c κs = search needs
 
 same-length : tie.Need-same-length
 same-length c = search needs
@@ -46,20 +24,46 @@ same-length-4 : tie.Need-same-length-4
 same-length-4 c = search needs
 
 returns : tie.Need-returns
-returns c = search needs
+returns c =
+    let t = c .before .before .before .before in
+    let i = t .before .before .before .before .before .before .before in
+    told _ (text-refused _ (i .in-turn .ensures) (t .if1 .taken)) (c .before .before .refused-text .ensures)
+
+list-book-requires : tie.Need-list-book-requires
+list-book-requires c κs = search needs
+
+same-length-5 : tie.Need-same-length-5
+same-length-5 c = search needs
+
+same-length-6 : tie.Need-same-length-6
+same-length-6 c = search needs
+
+same-length-7 : tie.Need-same-length-7
+same-length-7 c = search needs
+
+same-length-8 : tie.Need-same-length-8
+same-length-8 c = search needs
+
+returns-2 : tie.Need-returns-2
+returns-2 c =
+    let e = c .before .before .before .before .before in
+    let i = e .before .before .before .before .before .before .before in
+    told _ (text-listed _ (i .in-turn .ensures) (e .if1 .left)) (c .before .before .list-book .ensures)
 
 pub reply-in-spec : {M : Type 1} → statement M
 reply-in-spec =
     tie.close
     (tie.spec
-    book-long-requires
-    slice-relend-prefix-reply-exact
-    slice-aggregate-reply-exact
-    slice-relend-prefix-reply-exact-2
-    slice-aggregate-reply-exact-2
-    reply-exact-requires
+    in-turn-requires
+    refused-text-requires
     same-length
     same-length-2
     same-length-3
     same-length-4
-    returns)
+    returns
+    list-book-requires
+    same-length-5
+    same-length-6
+    same-length-7
+    same-length-8
+    returns-2)

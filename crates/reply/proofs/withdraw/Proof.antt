@@ -1,6 +1,5 @@
 -- `reply::withdraw` meets its contract: a refused withdrawal changes nothing, an accepted one fills the second buffer,
 -- which is copied back. Assumes nothing.
-use mathlib.Core.Path.{sym}
 use native.Mathlib.Omega.{arith}
 use Rattle.reply.proofs.Steps.{step-refused, second-long, step-done}
 use borrow.Author.Needs.{needs}

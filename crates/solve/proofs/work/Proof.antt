@@ -1,25 +1,27 @@
 -- `solve::work` meets its contract: the table is the plant's, the start is the set of flagged states, and the rounds
 -- from there leave the rows of the kept states. Assumes nothing.
-use mathlib.Core.Path.{ap, _∙_}
+use mathlib.Core.Path.{_≡_, ap, _∙_}
 use Prim.Native.Nat.{_≤_}
 use native.Mathlib.Omega.{arith}
-use lib.ListN.{length}
+use lib.ListN.{length, take}
 use denote.Ref.{now}
+use Rattle.statements.specs.Sets.{numbers, filter}
 use Rattle.statements.specs.Plants.{plantOf}
 use Rattle.decoding.proofs.Sizes.{Sizes}
 use Rattle.decoding.proofs.Faults.{plant-ok}
 use Rattle.solve.specs.Rows.{flagged}
+use Rattle.solve.proofs.RoundsSets.{flags-done}
 use Rattle.solve.proofs.RoundsKept.{begun}
 use Rattle.solve.proofs.RoundsRows.{rows-done}
 use borrow.Author.Needs.{needs}
 use Rattle.solve.proofs.work.Statement.{statement}
 use Rattle.solve.proofs.work.Tie as tie
 
--- the places before `begin` and before the first call
-abbrev loaded : tie.After-begin-arg → tie.After-load
+-- the places before `flags` and before the first call
+abbrev loaded : tie.After-flags-arg → tie.After-load
 loaded c = c .before .before .before .before .before .before .before .before .before .before
 
-abbrev entered : tie.After-begin-arg → tie.Start
+abbrev entered : tie.After-flags-arg → tie.Start
 entered c = loaded c .before .before .before .before .before .before .before .before .before .before .before .before
     .before
 
@@ -34,38 +36,34 @@ load-requires c κs = search needs
 number-requires : tie.Need-number-requires
 number-requires c κs = search needs
 
-begin-requires : tie.Need-begin-requires
-begin-requires c κs =
-    let s = entered c in (
-      s .pre .1 .1 .0,
-      omega (arith, s .pre .1 .0, sized s .states-most, s .pre .1 .1 .1 .1 .4),
-      omega (arith, s .pre .1 .0, sized s .states-most),
-    )
+flags-requires : tie.Need-flags-requires
+flags-requires c κs = search needs
 
-rounds-requires : tie.Need-rounds-requires
+-- what is listed
+listed : (c : tie.After-flags)
+    → let s = entered (c .before) in
+    (c .flags .result ≤ length (c .flags .last .1 .1 .0))
+    × (take (c .flags .result) (c .flags .last .1 .1 .0)
+    ≡ filter (flagged (now (s .args .start))) (numbers (s .args .states) 0))
+listed c =
+    let s = entered (c .before) in
+    let most = sized s .states-most in
+    let sizes = s .pre .1 .0 in
+    flags-done (now (s .args .start)) (s .args .states) (now (s .args .all)) _ _ (s .pre .1 .1 .0)
+    (omega (arith, most, sizes .0, s .pre .1 .1 .1 .1 .4)) (omega (arith, most, sizes .0)) (c .flags .ensures .0)
+    (c .flags .ensures .1)
+
+settle-requires : tie.Need-settle-requires
 unfolding plantOf
-rounds-requires c κs =
-    let begin = c .before .before .before .before .before .before .before .before in
-    let s = entered (begin .before) in
+settle-requires c κs =
+    let flags = c .before .before .before .before .before .before .before .before in
+    let s = entered (flags .before) in
     let p = plantOf (now (s .args .plant)) in
     let sizes = s .pre .1 .0 in
-    let ensures = begin .begin .ensures in
-    let set = begun p (s .args .mask) (flagged (now (s .args .start))) _ _ (sizes .0) (ensures .0 .1) in
-    let all-long = ensures .1 ∙ s .pre .1 .1 .1 .1 .4 in
-    let counted : begin .begin .result ≤ length (begin .begin .last .1 .1 .0) =
-    omega (arith, ensures .0 .0, sized s .states-most, sizes, all-long) in (
-      s .pre .0,
-      (
-        loaded (begin .before) .load .ensures,
-        (
-          begin .before .before .number .ensures,
-          (
-            sizes,
-            ((counted, set .0), (all-long, s .pre .1 .1 .1 .0)),
-          ),
-        ),
-      ),
-    )
+    let list = listed flags in
+    let set = begun p (s .args .mask) (flagged (now (s .args .start))) _ _ (sizes .0) (list .1) in
+    let number = flags .before .before .number .ensures in
+    (s .pre .0, (loaded (flags .before) .load .ensures, (number, (sizes, ((list .0, set .0), s .pre .1 .1 .1 .0)))))
 
 same-length : tie.Need-same-length
 same-length c = search needs
@@ -87,14 +85,14 @@ same-length-6 c = search needs
 
 returns : tie.Need-returns
 returns c =
-    let rounds = c .before .before .before .before in
-    let begin = rounds .before .before .before .before .before .before .before .before .before in
-    let s = entered (begin .before) in
+    let settle = c .before .before .before .before in
+    let flags = settle .before .before .before .before .before .before .before .before .before in
+    let s = entered (flags .before) in
     let p = plantOf (now (s .args .plant)) in
     let sizes = s .pre .1 .0 in
-    let ensures = rounds .rounds .ensures in
+    let ensures = settle .settle .ensures in
     let test = flagged (now (s .args .start)) in
-    let same = begun p (s .args .mask) test _ _ (sizes .0) (begin .begin .ensures .0 .1) .1 in (
+    let same = begun p (s .args .mask) test _ _ (sizes .0) (listed flags .1) .1 in (
       ensures .0 ∙ ap length same,
       rows-done p (s .args .mask) test _ _ _ _ _ (sized s .goals-least) (sizes .0) (sizes .1) same (ensures .1 .0)
           (ensures .1 .1) (s .pre .1 .1 .1 .0),
@@ -106,8 +104,8 @@ work-spec =
     (tie.spec
     load-requires
     number-requires
-    begin-requires
-    rounds-requires
+    flags-requires
+    settle-requires
     same-length
     same-length-2
     same-length-3

@@ -1,32 +1,33 @@
 -- `solve::reach::sweep` meets its contract: after k turns the first k states of the rest are placed, and from k on the
--- rest is as it was. The waits written are not below the step, so each search sees the same set. Assumes nothing.
-use mathlib.Core.Path.{_≡_, refl, ap, _∙_}
+-- rest is as it was. The waits written are not below the step, so each state sees the same set. Assumes nothing.
+use mathlib.Core.Path.{_≡_, refl, _∙_}
 use mathlib.Core.List.{List}
 use Prim.Native.Nat.{ℕ, _≤_, _<_, _-_}
 use native.Mathlib.Omega.{arith}
 use lib.ListN.{length, getD, take, drop}
 use lib.Seq.{length-take-le}
 use borrow.Author.Needs.{needs}
-use Rattle.statements.specs.Plants.{plantOf, moveInto}
-use Rattle.solve.specs.Reaching.{nextMove}
+use Rattle.statements.specs.Plants.{plantOf}
+use Rattle.solve.specs.Reaching.{stepMove}
+use Rattle.solve.proofs.ReachSteps.{same-move}
 use Rattle.solve.proofs.ReachTurns.{Turn, isIn-at, turn-start, turn-few, turn-room, turn-again, turn-end}
 use Rattle.solve.proofs.ReachTurns.{turn-below, rest-stays, rest-length, rest-at}
 use Rattle.solve.proofs.reach.sweep.Statement.{statement}
 use Rattle.solve.proofs.reach.sweep.Tie as tie
 
 abbrev Inv-loop : tie.InvT-loop
-Inv-loop plant mask _ _ _ _ none count steps waits₀ listed₀ rest₀ _ _ waits listed rest k left =
-    let found = nextMove (plantOf plant) mask waits₀ steps in
+Inv-loop plant mask _ _ _ _ none member goal count steps waits₀ listed₀ rest₀ _ _ waits listed rest k left =
+    let found = stepMove (plantOf plant) mask goal member waits₀ steps in
     (length rest ≡ length rest₀)
     × (drop k rest ≡ drop k rest₀)
     × (Turn (take count rest₀) found none steps waits₀ listed₀ waits listed rest left k)
 
 abbrev μ-loop : tie.MeasureT-loop
-μ-loop _ _ _ _ _ _ _ count _ _ _ _ _ _ _ _ _ k _ = count - k
+μ-loop _ _ _ _ _ _ _ _ _ count _ _ _ _ _ _ _ _ _ k _ = count - k
 
 -- the function's entry, seen from a turn, and the turn, seen from its end
 abbrev entry : tie.In-loop Inv-loop μ-loop → tie.Start Inv-loop μ-loop
-entry c = c .before .before .before .before .before .before .before .before .before .before
+entry c = c .before .before .before .before .before .before .before .before .before .before .before
 
 abbrev turn : tie.After-slice-known7 Inv-loop μ-loop → tie.In-loop Inv-loop μ-loop
 turn c =
@@ -38,11 +39,11 @@ abbrev todo : tie.Start Inv-loop μ-loop → List ℕ
 todo s = take (s .args .count) (s .args .rest .now)
 
 todo-long : (s : tie.Start Inv-loop μ-loop) → length (todo s) ≡ s .args .count
-todo-long s = length-take-le (s .args .count) (s .args .rest .now) (s .pre .1 .1 .1 .1 .2)
+todo-long s = length-take-le (s .args .count) (s .args .rest .now) (s .pre .1 .1 .1 .1 .3)
 
 loop-holds : tie.Need-loop-holds Inv-loop μ-loop
 loop-holds c =
-    let s = c .before .before .before .before .before .before .before .before in
+    let s = c .before .before .before .before .before .before .before .before .before in
     (refl, refl, turn-start (todo s) _ _ _ _ _ _)
 
 mul-state : tie.Need-mul-state Inv-loop μ-loop
@@ -76,16 +77,17 @@ room : (c : tie.In-loop Inv-loop μ-loop)
 room c =
     let pre = entry c .pre .1 .1 .1 .1 in
     let inv = c .before .loop .inv in
-    turn-room (inv .2) (passed c) (in-range c) (pre .0) (pre .1) (omega (arith, todo-long (entry c), pre .2, inv .0))
+    turn-room (inv .2) (passed c) (in-range c) (pre .1) (pre .2) (omega (arith, todo-long (entry c), pre .3, inv .0))
 
-search-requires : tie.Need-search-requires Inv-loop μ-loop
-search-requires c κs =
+next-requires : tie.Need-next-requires Inv-loop μ-loop
+next-requires c κs =
     let t = c .before .before in
     let s = entry t in
     let l = t .before .loop in
+    let room = s .pre .1 .1 .1 .1 in
     let long : plantOf (s .args .plant .now) .states ≤ length (l .waits)
-    = omega (arith, s .pre .1 .1 .1 .1 .0, l .inv .2 .waits-long) in
-    (s .pre .0, (s .pre .1 .0, (s .pre .1 .1 .0, (long, in-range t))))
+    = omega (arith, room .1, l .inv .2 .waits-long) in
+    (s .pre .0, (s .pre .1 .0, (s .pre .1 .1 .0, ((room .0, long), in-range t))))
 
 place-requires : tie.Need-place-requires Inv-loop μ-loop
 place-requires c κs = room (c .before .before .before .before .before .before)
@@ -96,17 +98,18 @@ add-k c = search needs
 loop-less : tie.Need-loop-less Inv-loop μ-loop
 loop-less c = omega (arith, turn c .loop-test .taken)
 
--- the search sees what was reached before the sweep
+-- the move is looked for in what was reached before the sweep
 found-is : (c : tie.After-slice-known7 Inv-loop μ-loop)
     → let s = entry (turn c) in
-    c .before .before .before .before .before .before .before .before .before .before .search .result
-    ≡ nextMove (plantOf (s .args .plant .now)) (s .args .mask) (s .args .waits .now) (s .args .steps) (state (turn c))
-unfolding nextMove
+    c .before .before .before .before .before .before .before .before .before .before .next .result
+    ≡ stepMove (plantOf (s .args .plant .now)) (s .args .mask) (s .args .goal) (s .args .member .now)
+    (s .args .waits .now) (s .args .steps) (state (turn c))
 found-is c =
     let t = turn c in
     let s = entry t in
-    c .before .before .before .before .before .before .before .before .before .before .search .ensures
-    ∙ ap (λ (ys : List ℕ). moveInto (plantOf (s .args .plant .now)) (s .args .mask) ys (state t))
+    c .before .before .before .before .before .before .before .before .before .before .next .ensures
+    ∙ same-move (plantOf (s .args .plant .now)) (s .args .mask) (s .args .goal) (s .args .member .now)
+    (s .args .waits .now) (t .before .loop .waits) (s .args .steps) (state t)
     (turn-below (t .before .loop .inv .2) (s .pre .1 .1 .1 .0))
 
 loop-again : tie.Need-loop-again Inv-loop μ-loop
@@ -131,7 +134,7 @@ same-length-3 c = c .before .loop .inv .0
 
 returns : tie.Need-returns Inv-loop μ-loop
 returns c =
-    let s = c .before .before .before .before .before .before .before .before .before .before in
+    let s = c .before .before .before .before .before .before .before .before .before .before .before in
     turn-end (c .before .loop .inv .2) (omega (arith, c .loop-test .left, todo-long s))
 
 pub sweep-spec : {M : Type 1} → statement M
@@ -143,7 +146,7 @@ sweep-spec =
     loop-holds
     mul-state
     slice-read-state
-    search-requires
+    next-requires
     place-requires
     add-k
     loop-less

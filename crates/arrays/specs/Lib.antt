@@ -1,0 +1,2 @@
+-- What the loops over slices leave.
+pub mod Lists
