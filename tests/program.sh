@@ -89,15 +89,8 @@ def listing(moves, goals, labels, arrows, service):
 
 ARROWS = [(0, 0, 1), (0, 1, 1), (0, 1, 2), (1, 0, 2), (1, 1, 3), (1, 2, 0), (2, 0, 0), (2, 2, 1)]
 P = (3, 2, [3, 1, 5, 0], ARROWS)
-SAMPLE = """3 of 4 kept, 2 moves in service
-0 0 0 0
-0 1 2 0
-1 0 2 0
-1 1 1 0
-2 0 1 0
-2 1 0 0
-3 lost
-"""
+with open("crates/planbook/stdout", encoding="ascii") as sample:
+    SAMPLE = sample.read()
 LOST = "0 of 4 kept, %d moves in service\n0 lost\n1 lost\n2 lost\n3 lost\n"
 
 # document 01's sample, and the books of M1, M3 and M4

@@ -25,15 +25,9 @@ PLANT_PY = os.path.join(TOP, "tools", "plant.py")
 EXAMPLES = os.path.join(TOP, "examples")
 EXAMPLE_PLANTS = sorted(name for name in os.listdir(EXAMPLES) if name.endswith(".plant"))
 
-STRIP_LISTING = """3 of 4 kept, 2 moves in service
-0 0 0 0
-0 1 2 0
-1 0 2 0
-1 1 1 0
-2 0 1 0
-2 1 0 0
-3 lost
-"""
+# Document 01's listing of P with masks 7 and 4, written by hand.
+with open(os.path.join(TOP, "crates", "planbook", "stdout"), encoding="ascii") as sample:
+    STRIP_LISTING = sample.read()
 
 SMALL = """plant states 2 moves 1 goals 1
 state 0 allowed
