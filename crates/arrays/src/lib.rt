@@ -3,11 +3,12 @@
 ghost use mathlib.Core.Path.{_≡_};
 ghost use Prim.Native.Nat.{_≤_};
 ghost use lib.ListN.{length};
-ghost use Rattle.arrays.specs.Lists.{front, fitting, zeroed, flagList, stays, stayList, stored};
+ghost use Rattle.statements.specs.Sets.{over};
+ghost use Rattle.arrays.specs.Lists.{fitting, zeroed, flagList, stays, stayList, stored};
 
 // Copies a list over the front of another.
 pub fn copy(from: &[u16], to: &mut [u16])
-    ensures { λ _. ⌜ now (to .exit) ≡ front (fitting (now (from .entry)) (now (to .entry))) (now (to .entry)) ⌝ }
+    ensures { λ _. ⌜ now (to .exit) ≡ over (fitting (now (from .entry)) (now (to .entry))) (now (to .entry)) ⌝ }
 {
     if from.len() > to.len() {
         return;
@@ -36,7 +37,7 @@ pub fn mark(listed: &[u16], to: &mut [u16])
 // Lists the places with flag 1 among the first `states`, rising; returns how many.
 pub fn flags(start: &[u8], states: usize, all: &mut [u16]) -> usize
     ensures count { λ r. ⌜ r ≡ length (flagList (now (start .entry)) states (now (all .entry))) ⌝ }
-    ensures list { λ _. ⌜ now (all .exit) ≡ front (flagList (now (start .entry)) states (now (all .entry))) (now (all .entry)) ⌝ }
+    ensures list { λ _. ⌜ now (all .exit) ≡ over (flagList (now (start .entry)) states (now (all .entry))) (now (all .entry)) ⌝ }
 {
     let fits = (states <= start.len()) & ((states <= all.len()) & (states <= 65536));
     if !fits {
@@ -106,7 +107,7 @@ fn stay(entries: &[u16], goals: usize, state: u16) -> bool
 // Keeps those of the first `count` states of a list that have a wait for each goal, at its front; returns how many.
 pub fn cut(list: &mut [u16], count: usize, goals: usize, entries: &[u16]) -> usize
     ensures count { λ r. ⌜ r ≡ length (stayList (now (entries .entry)) goals count (now (list .entry))) ⌝ }
-    ensures list { λ _. ⌜ now (list .exit) ≡ front (stayList (now (entries .entry)) goals count (now (list .entry))) (now (list .entry)) ⌝ }
+    ensures list { λ _. ⌜ now (list .exit) ≡ over (stayList (now (entries .entry)) goals count (now (list .entry))) (now (list .entry)) ⌝ }
 {
     let fits = (count <= list.len()) & (goals <= 65536);
     if !fits {

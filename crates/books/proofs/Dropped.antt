@@ -9,11 +9,12 @@ use native.Mathlib.Numerals.{add-one}
 use native.Mathlib.Omega.{arith}
 use lib.ListN.{length, length-append}
 use lib.Seq.{sets}
-use Rattle.statements.specs.Sets.{consIf, numbers, filter}
+use Rattle.statements.specs.Sets.{consIf, numbers, filter, over}
 use Rattle.statements.specs.Books.{two, bytesOf, bookStates, isLost, bookKept, droppedStates}
 use Rattle.sets.proofs.Members.{filter-filter, filter-length, length-numbers}
-use Rattle.books.specs.Says.{over, Lists}
-use Rattle.books.proofs.Written.{bytes-length, bytes-more, over-length, over-none, put-more, listed}
+use Rattle.books.specs.Says.{Lists}
+use Rattle.sets.proofs.Over.{over-none, over-length}
+use Rattle.books.proofs.Written.{bytes-length, bytes-more, put-more, listed}
 
 -- kept in one book and lost in another
 unfoldable pub isDropped : List ℕ → List ℕ → ℕ → Bool

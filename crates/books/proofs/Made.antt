@@ -10,6 +10,7 @@ use lib.ListN.{length, take}
 use lib.Seq.{take-at}
 use lib.Bits.{bitAnd}
 use borrow.Author.Tests.{eq-eqb, ne-eqb, le-leb, leb-true}
+use Rattle.statements.specs.Sets.{over}
 use Rattle.statements.specs.Plants.{Plant, plantOf, plantFault, allowed}
 use Rattle.statements.specs.Kept.{keptWithin}
 use Rattle.statements.specs.Books.{bytesOf, bookBytes, bookLong, bookStates, bookMask, isLost, lessMask, bookWithin}
@@ -23,9 +24,10 @@ use Rattle.decoding.proofs.Faults.{plant-ok, withdraw-ok}
 use Rattle.decoding.proofs.Header.{book-length}
 use Rattle.solve.specs.Rows.{rowNumbers, solvable, flagged, solvedCount, solvedRows}
 use Rattle.solve.proofs.RoundsSolved.{solved}
-use Rattle.books.specs.Says.{over, MakeSays, WithdrawSays}
+use Rattle.books.specs.Says.{MakeSays, WithdrawSays}
 use Rattle.books.proofs.Started.{kept-same}
-use Rattle.books.proofs.Written.{over-back, rows-count}
+use Rattle.sets.proofs.Over.{over-back}
+use Rattle.books.proofs.Written.{rows-count}
 use Rattle.books.proofs.Dropped.{dropped-listed}
 
 module _ (s : List ℕ) (fine : plantFault s ≡ 0) where
@@ -71,7 +73,7 @@ module _ (s : List ℕ) (fine : plantFault s ≡ 0) where
         → r ≡ solvedRows s mask start entries → take n r ≡ rowNumbers (plantOf s) mask Kept
     solved-rows n e er =
         rw (er, ← solved s mask start entries can-solve .1)
-        (take-at (rowNumbers (plantOf s) mask Kept) _ n (rows-count (plantOf s) mask Kept ∙ sym e))
+        (over-back (rowNumbers (plantOf s) mask Kept) entries n (e ∙ sym (rows-count (plantOf s) mask Kept)))
 
 module _ (p : Plant) (mask : ℕ) (test : ℕ → Bool) where
   -- flags that agree with a test on the states give the book of that test

@@ -9,18 +9,18 @@ use lib.Dec.{eqb}
 use lib.ListN.{length, take}
 use borrow.Author.Tests.{eq-eqb}
 use Rattle.books.specs.declared.Answer.{Answer}
-use Rattle.statements.specs.Sets.{pick}
+use Rattle.statements.specs.Sets.{pick, over}
 use Rattle.statements.specs.Plants.{plantOf}
 use Rattle.statements.specs.Books.{madeBook, withdrawnBook}
 use Rattle.statements.specs.Calls.{makeFault, answerOf, writtenBy, standingAfter, standing, answers}
 use Rattle.statements.specs.Demands.{Demand-3}
 use Rattle.demands.proofs.Demand2.{demand-2}
 use Rattle.demands.proofs.Demand3.{demand-3}
-use Rattle.books.specs.Says.{over, MakeSays, WithdrawSays}
+use Rattle.books.specs.Says.{MakeSays, WithdrawSays}
 use Rattle.books.specs.Traces.{Step, made, withdrew, answerIn, bufferIn, Keeps, nextBook, lastBook, Trace}
 use Rattle.books.specs.Traces.{numbersIn, callOf, callsOf, Begun, bookAfter, serviceAfter, Demand-3-traced}
 use Rattle.books.specs.Traces.{Demands}
-use Rattle.books.proofs.Written.{over-back}
+use Rattle.sets.proofs.Over.{over-back}
 
 -- what an accepted call leaves in its buffer is the book that it writes
 standing-is : (t : Bool) (b written o o′ : List ℕ) (l : ℕ) → l ≡ pick t (length written) 0 →

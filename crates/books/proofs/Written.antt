@@ -8,13 +8,14 @@ use native.Mathlib.Numerals.{add-one}
 use native.Mathlib.Omega.{arith}
 use lib.ListN.{length, getD, take, drop, length-append, length-drop, take-append-drop}
 use lib.Seq.{sets, sets-eq, take-append-seam, drop-append-add, drop-drop, take-suc, take-all, length-take-le, drop-at}
-use Rattle.statements.specs.Sets.{joined, isIn}
+use Rattle.statements.specs.Sets.{joined, isIn, over}
 use Rattle.statements.specs.Plants.{word, Plant, labelsFrom}
 use Rattle.statements.specs.Books.{two, bytesOf, bookLong, entryOf, rowOf, headOf, bookBytes}
 use Rattle.solve.specs.Rows.{entryNumbers, rowNumbers}
 use Rattle.sets.proofs.Tests.{decided}
 use Rattle.sets.proofs.Joined.{joined-length}
-use Rattle.books.specs.Says.{over, Lists}
+use Rattle.sets.proofs.Over.{over-none, over-length, over-back, over-more, over-after}
+use Rattle.books.specs.Says.{Lists}
 
 -- two bytes for each number
 pub bytes-length : (xs : List ℕ) → length (bytesOf xs) ≡ 2 * length xs
@@ -45,37 +46,6 @@ joined-same : (f g : ℕ → List ℕ) → ((k : ℕ) → f k ≡ g k) → (n x 
 unfolding joined
 joined-same f g h zero x = refl
 joined-same f g h (suc n) x = ap₂ (λ (xs ys : List ℕ). xs ++ ys) (h x) (joined-same f g h n (suc x))
-
--- the buffer keeps its length
-pub over-length : (xs o : List ℕ) → length xs ≤ length o → length (over xs o) ≡ length o
-unfolding over
-over-length xs o h = simp (length-append, length-drop) (omega arith)
-
--- the bytes written are read back
-pub over-back : (xs o : List ℕ) (n : ℕ) → n ≡ length xs → take n (over xs o) ≡ xs
-unfolding over
-over-back xs o n e = rw e (take-append-seam xs (drop (length xs) o))
-
--- nothing written
-pub over-none : (o : List ℕ) → o ≡ over [] o
-unfolding over
-over-none o = refl
-
--- bytes stored after those written
-over-more : (xs ys o : List ℕ) → length xs + length ys ≤ length o → sets (over xs o) (length xs) ys ≡ over (xs ++ ys) o
-unfolding over
-over-more xs ys o h =
-    let short : length xs ≤ length o = omega arith in
-    let fits : length xs + length ys ≤ length (over xs o) = rw over-length h in
-    sets-eq ys (over xs o) (length xs) fits
-    ∙ rw (take-append-seam xs, drop-append-add xs, drop-drop, length-append)
-
--- bytes that replace those past the ones written
-over-after : (xs ys o : List ℕ) {o′ : List ℕ} → o′ ≡ over xs o
-    → take (length xs) o′ ++ (ys ++ drop (length xs + length ys) o′) ≡ over (xs ++ ys) o
-unfolding over
-over-after xs ys o e =
-    rw (e, take-append-seam xs, drop-append-add xs, drop-drop, length-append, append-assoc)
 
 -- bytes stored after those written, as a store leaves them
 pub store-more : (xs ys o : List ℕ) (at : ℕ) {o′ o″ : List ℕ} → o′ ≡ over xs o → at ≡ length xs

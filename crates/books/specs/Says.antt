@@ -7,7 +7,7 @@ use lib.Dec.{eqb}
 use lib.ListN.{length, drop}
 use Rattle.books.specs.declared.Advice.{Advice}
 use Rattle.books.specs.declared.Answer.{Answer}
-use Rattle.statements.specs.Sets.{pick}
+use Rattle.statements.specs.Sets.{pick, over}
 use Rattle.statements.specs.Plants.{when, plantOf, labelsFrom}
 use Rattle.statements.specs.Books.{bookGoals, waitAt, moveAt, isLost, nextGoal}
 use Rattle.statements.specs.Books.{madeBook, withdrawnBook, droppedStates}
@@ -33,10 +33,6 @@ pub record ConsultSays (b : List ℕ) (x i : ℕ) (r : Advice) : Type 0 where
 -- where in a book b the row of state x starts; 0 when refused
 unfoldable pub rowStart : List ℕ → ℕ → ℕ
 rowStart b x = pick (accepted b x 0) (16 + 4 * (x * bookGoals b)) 0
-
--- bytes written over the first of a buffer; the bytes past them stay
-unfoldable pub over : List ℕ → List ℕ → List ℕ
-over bytes buffer = bytes ++ drop (length bytes) buffer
 
 -- making the book of a plant's bytes s with a mask, in a book buffer that holds o before and o′ after: the number is 1,
 -- 2, 3, 6, 7 or 0; an accepted call writes the book from the buffer's first byte on and returns its length; a refused

@@ -7,10 +7,10 @@ ghost use mathlib.Core.List.{List, [], _∷_, _++_};
 ghost use Prim.Native.Nat.{ℕ, _+_, _*_, _≤_};
 ghost use lib.ListN.{length, take, drop};
 ghost use lib.Seq.{sets};
+ghost use Rattle.statements.specs.Sets.{over};
 ghost use Rattle.statements.specs.Plants.{plantOf, plantFault};
 ghost use Rattle.statements.specs.Books.{two, bytesOf, headOf, bookStates, bookLong, bookWithin, droppedStates};
 ghost use Rattle.solve.specs.Rows.{flagged};
-ghost use Rattle.books.specs.Says.{over};
 
 // A two-byte number at a place, the low byte first.
 fn put(out: &mut [u8], at: usize, v: u16)

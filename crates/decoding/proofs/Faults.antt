@@ -17,12 +17,9 @@ use Rattle.statements.specs.Books.{bookLong, bookStates, bookMoves, bookGoals, 
 use Rattle.statements.specs.Books.{bookFault}
 use Rattle.statements.specs.Calls.{maskFault, bookRoom, dropRoom, makeFault, alike, withdrawFault, makes, withdraws}
 use Rattle.statements.specs.Calls.{toldOf}
-use Rattle.sets.proofs.Tests.{and-true, and-left, and-right}
+use Rattle.sets.proofs.Tests.{and-true, and-left, and-right, and-iff}
 use Rattle.sets.proofs.Members.{isIn-none, isIn-consIf}
 use Rattle.decoding.proofs.Sizes.{Sizes}
-
-pub and-iff : (a b : Bool) → (a && b ≡ true) ↔ ((a ≡ true) × (b ≡ true))
-and-iff a b = (λ h. (and-left a b h, and-right a b h), λ h. and-true (h .0) (h .1))
 
 pub first-iff : (a b : ℕ) → (firstOf a b ≡ 0) ↔ ((a ≡ 0) × (b ≡ 0))
 first-iff zero b = (λ h. (refl, h), λ h. h .1)

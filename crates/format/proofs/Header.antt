@@ -7,22 +7,9 @@ use Prim.Native.Nat.{ℕ, _+_, _*_, _≤_}
 use native.Mathlib.Omega.{arith}
 use lib.Dec.{eqb, leb}
 use lib.ListN.{length}
-use borrow.Author.Tests.{leb-true, eqb-true, le-leb, eq-eqb}
 use Rattle.statements.specs.Plants.{word, headOk}
 use Rattle.statements.specs.Books.{bookStates, bookMoves, bookGoals, bookMask, bookLong, maskOk, bookHeadOk}
-
--- a conjunction of tests holds when both do
-pub and-iff : (a b : Bool) → (a && b ≡ true) ↔ ((a ≡ true) × (b ≡ true))
-and-iff true b = ((λ e. (refl, e)), (λ e. e .1))
-and-iff false b = ((λ e. (e, absurd (false≢true e))), (λ e. e .0))
-
--- a test of order holds when the numbers are so ordered
-pub leb-iff : (a b : ℕ) → (leb a b ≡ true) ↔ (a ≤ b)
-leb-iff a b = (leb-true a b, le-leb a b)
-
--- a test of equality holds when the numbers are equal
-pub eqb-iff : (a b : ℕ) → (eqb a b ≡ true) ↔ (a ≡ b)
-eqb-iff a b = (eqb-true a b, eq-eqb a b)
+use Rattle.sets.proofs.Tests.{and-iff, leb-iff, eqb-iff}
 
 -- counts of states, moves and goals in range
 pub record Counts (states moves goals : ℕ) : Type 0 where

@@ -13,7 +13,7 @@ use lib.Pow.{pow-pos, pow-mono, pow-add, pow-lt}
 use borrow.Author.Tests.{lt-ltb}
 use Rattle.statements.specs.Sets.{bit}
 use Rattle.statements.specs.Plants.{word}
-use Rattle.statements.specs.Books.{maskOk}
+use Rattle.statements.specs.Books.{maskAt, maskOk}
 
 -- a number's two bytes, in the list that was cut off at a place
 pub word-bytes : (s : List ℕ) (at i : ℕ)
@@ -33,6 +33,15 @@ word-further s at i = word-bytes s at i ∙ sym (word-here s (at + 2 * i))
 pub word-number : (s : List ℕ) (i : ℕ) → word i s ≡ word 0 (drop (2 * i) s)
 unfolding word
 word-number s i = simp (getD-drop, add-zero)
+
+-- a mask's two halves start at bytes 4k and 4k + 2
+pub mask-halves : (m : List ℕ) (k : ℕ) {low high : ℕ} → low ≡ word 0 (drop (4 * k) m)
+    → high ≡ word 0 (drop (4 * k + 2) m) → low + 65536 * high ≡ maskAt m k
+unfolding maskAt
+mask-halves m k el eh =
+    let l : 2 * (2 * k) ≡ 4 * k = omega arith in
+    let h : 2 * (2 * k + 1) ≡ 4 * k + 2 = omega arith in
+    rw (el, eh, word-number m (2 * k), word-number m (2 * k + 1), l, h)
 
 -- past the end the bytes count as 0
 pub word-past : (s : List ℕ) (at : ℕ) → length s ≤ at → word 0 (drop at s) ≡ 0

@@ -10,6 +10,7 @@ ghost use lib.ListN.{length, getD, drop};
 ghost use Rattle.format.specs.Checks.{labelsFine, arrowsFine};
 ghost use Rattle.statements.specs.Plants.{labelsFrom, arrowsFrom, plantOf, allowed, inGoal};
 ghost use Rattle.statements.specs.Plants.{headOk, labelsOk, arrowsOk};
+ghost use Rattle.statements.specs.Books.{bookLong};
 
 // The header is as document 01 says, and the slice is as long as the header says.
 pub(crate) fn head_ok(plant: &[u8]) -> bool
@@ -104,6 +105,13 @@ pub(crate) fn arrows_ok(plant: &[u8]) -> bool
     let s = number(plant, 0);
     let start = 16 + 2 * (s as usize);
     arrows_ascend(plant, start, number(plant, 3) as usize, s, number(plant, 1))
+}
+
+// The length of a plant's books.
+pub fn book_long(plant: &[u8]) -> usize
+    ensures { λ r. ⌜ r ≡ bookLong (plantOf (now (plant .entry)) .states) (plantOf (now (plant .entry)) .goals) ⌝ }
+{
+    16 + 4 * ((number(plant, 0) as usize) * (number(plant, 2) as usize))
 }
 
 // The label of a state; 0 for a number that is no state.

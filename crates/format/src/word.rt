@@ -4,6 +4,7 @@ ghost use Prim.Native.Nat.{_+_, _*_, _<_};
 ghost use lib.ListN.{length, drop};
 ghost use Rattle.statements.specs.Sets.{bit};
 ghost use Rattle.statements.specs.Plants.{word};
+ghost use Rattle.statements.specs.Books.{maskAt};
 
 // The number of a low and a high byte.
 fn pair(low: u8, high: u8) -> u16
@@ -38,6 +39,14 @@ pub fn number(s: &[u8], i: u8) -> u16
     ensures { λ r. ⌜ r ≡ word i (now (s .entry)) ⌝ }
 {
     word_at(s, 2 * (i as usize))
+}
+
+// Mask k of a slice read as four-byte masks.
+pub fn mask_at(masks: &[u8], k: u8) -> u32
+    ensures { λ r. ⌜ r ≡ maskAt (now (masks .entry)) k ⌝ }
+{
+    let at = 4 * (k as usize);
+    (word_at(masks, at) as u32) + 65536 * (word_at(masks, at + 2) as u32)
 }
 
 // Bit i of a number.

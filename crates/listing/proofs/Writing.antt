@@ -9,7 +9,7 @@ use native.Mathlib.Omega.{arith}
 use lib.ListN.{length, getD, drop, set, length-append}
 use lib.Seq.{sets, sets-eq, length-sets, drop-cons}
 use borrow.Author.Tests.{le-leb, lt-leb}
-use Rattle.statements.specs.Sets.{joined}
+use Rattle.statements.specs.Sets.{joined, over}
 use Rattle.listing.specs.Buffers.{hasRoom, placed, placedLong, Wrote}
 
 -- two texts, the second at the place after the first
@@ -113,7 +113,7 @@ module _ {part : ℕ → List ℕ} {n : ℕ} {o : List ℕ} {at i next : ℕ} {n
 -- a text that fits and was put from the first byte on
 pub placed-whole : {text o after : List ℕ} {next : ℕ} → Wrote o 0 text next after → length text ≤ length o
     → (next ≡ placedLong text o) × (after ≡ placed text o)
-unfolding hasRoom placed placedLong
+unfolding hasRoom placed placedLong over
 placed-whole {text} {o} w h =
     let room = le-leb (length text) (length o) h in (
       w .place ∙ zero-add (length text) ∙ rw room,

@@ -6,7 +6,7 @@ use Prim.Native.Nat.{ℕ, _+_}
 use lib.Dec.{leb}
 use lib.ListN.{length, drop}
 use lib.Seq.{sets}
-use Rattle.statements.specs.Sets.{pick}
+use Rattle.statements.specs.Sets.{pick, over}
 
 -- the text is no longer than the buffer
 unfoldable pub hasRoom : List ℕ → List ℕ → Bool
@@ -14,7 +14,7 @@ hasRoom text o = leb (length text) (length o)
 
 -- a buffer after a text is written from its first byte on, the bytes past it left; unchanged where it does not fit
 unfoldable pub placed : List ℕ → List ℕ → List ℕ
-placed text o = pick (hasRoom text o) (text ++ drop (length text) o) o
+placed text o = pick (hasRoom text o) (over text o) o
 
 -- how many bytes were written: the text's length, or 0 where it does not fit
 unfoldable pub placedLong : List ℕ → List ℕ → ℕ

@@ -7,12 +7,12 @@ use Prim.Native.Nat.{ℕ, zero, suc, _+_, _/_, _<_}
 use native.Mathlib.Omega.{arith}
 use lib.ListN.{length}
 use Rattle.statements.specs.Plants.{Plant, plantOf, plantFault}
-use Rattle.statements.specs.Books.{maskOk, lessMask, madeBook}
+use Rattle.statements.specs.Books.{maskAt, maskOk, lessMask, madeBook}
 use Rattle.decoding.proofs.Masks.{less-ok}
 use Rattle.decoding.proofs.Faults.{PlantOk, plant-ok}
 use Rattle.demands.proofs.Afresh.{withdrawn-afresh}
 use Rattle.listing.specs.Text.{listing}
-use Rattle.reply.specs.Reply.{plantPart, maskPart, masksOk, maskAt, lists, withdrawing, inTurn, outcomeText}
+use Rattle.reply.specs.Reply.{plantPart, maskPart, masksOk, lists, withdrawing, inTurn, outcomeText}
 use Rattle.reply.specs.Reply.{replyTo, leftOf, servedBy}
 use Rattle.reply.proofs.Parts.{masks-good}
 use Rattle.reply.proofs.Turns.{masks-few}

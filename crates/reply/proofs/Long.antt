@@ -12,7 +12,8 @@ use lib.Seq.{take-all, take-take, getD-take, length-take-le}
 use borrow.Author.Tests.{leb-true, eqb-true, le-leb, lt-leb}
 use Rattle.statements.specs.Plants.{word, headOk, plantFault}
 use Rattle.sets.proofs.Tests.{decided, same-number}
-use Rattle.decoding.proofs.Faults.{and-iff, plant-tests}
+use Rattle.sets.proofs.Tests.{and-iff}
+use Rattle.decoding.proofs.Faults.{plant-tests}
 use Rattle.reply.specs.Reply.{plantPart, maskPart, masksOk, replyTo}
 use Rattle.reply.proofs.Parts.{plant-refused, masks-bad}
 

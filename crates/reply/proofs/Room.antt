@@ -9,7 +9,7 @@ use lib.Dec.{eqb}
 use lib.ListN.{length}
 use borrow.Author.Tests.{leb-true, eqb-true}
 use Rattle.statements.specs.Plants.{Plant, plantOf, headOk, labelsOk, arrowsOk, firstOf, when, plantFault}
-use Rattle.statements.specs.Books.{maskOk, lessMask, madeBook}
+use Rattle.statements.specs.Books.{maskAt, maskOk, lessMask, madeBook}
 use Rattle.sets.proofs.Tests.{decided}
 use Rattle.decoding.proofs.Masks.{less-ok}
 use Rattle.decoding.proofs.Faults.{PlantOk, plant-ok}
@@ -20,7 +20,7 @@ use Rattle.listing.specs.Text.{newline, listing, refusedText, badMasksText}
 use Rattle.listing.specs.Buffers.{hasRoom, placedLong}
 use Rattle.listing.proofs.Digits.{figure-few}
 use Rattle.listing.proofs.Texts.{text-most, listed}
-use Rattle.reply.specs.Reply.{plantPart, maskPart, masksOk, maskAt, withdrawing, inTurn, outcomeText}
+use Rattle.reply.specs.Reply.{plantPart, maskPart, masksOk, withdrawing, inTurn, outcomeText}
 use Rattle.reply.specs.Reply.{masksText, replyTo}
 
 -- what is written of a text lies within the buffer

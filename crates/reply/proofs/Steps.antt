@@ -8,6 +8,7 @@ use native.Mathlib.Omega.{arith}
 use lib.ListN.{length, take, drop}
 use lib.Seq.{take-length, drop-length, length-take-le}
 use borrow.Author.Tests.{eq-eqb, le-leb}
+use Rattle.statements.specs.Sets.{over}
 use Rattle.statements.specs.Plants.{Plant, firstOf, plantOf, plantFault, allowed}
 use Rattle.statements.specs.Books.{bookLong, bookFault, maskOk, lessMask, madeBook, withdrawnBook}
 use Rattle.statements.specs.Calls.{maskFault, bookRoom, dropRoom, alike, withdrawFault, toldOf}
@@ -15,7 +16,7 @@ use Rattle.decoding.proofs.Masks.{less-ok}
 use Rattle.decoding.proofs.Faults.{plant-ok, when-iff, make-told, withdraw-told}
 use Rattle.demands.proofs.Afresh.{made-alike, made-accepted, withdrawn-afresh}
 use Rattle.books.specs.declared.Answer.{Answer}
-use Rattle.books.specs.Says.{over, MakeSays, WithdrawSays}
+use Rattle.books.specs.Says.{MakeSays, WithdrawSays}
 use Rattle.books.proofs.Made.{states-few, entries-few, within-length}
 use Rattle.reply.specs.Steps.{Ready, Standing, Stepped}
 

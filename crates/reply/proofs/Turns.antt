@@ -10,13 +10,13 @@ use native.Mathlib.Numerals.{add-one}
 use lib.ListN.{length}
 use borrow.Author.Tests.{ne-eqb, leb-true}
 use Rattle.statements.specs.Plants.{Plant, plantOf}
-use Rattle.statements.specs.Books.{maskOk, madeBook, withdrawnBook}
+use Rattle.statements.specs.Books.{maskAt, maskOk, madeBook, withdrawnBook}
 use Rattle.statements.specs.Calls.{maskFault}
 use Rattle.sets.proofs.Tests.{decided}
-use Rattle.decoding.proofs.Faults.{and-iff}
+use Rattle.sets.proofs.Tests.{and-iff}
 use Rattle.books.specs.declared.Answer.{Answer}
 use Rattle.books.specs.Says.{MakeSays}
-use Rattle.reply.specs.Reply.{masksOk, maskAt, Outcome, refused, withdrawing, inTurn}
+use Rattle.reply.specs.Reply.{masksOk, Outcome, refused, withdrawing, inTurn}
 use Rattle.reply.specs.Steps.{Ready, Standing, Stepped, cameTo}
 use Rattle.reply.proofs.Steps.{mask-fine, make-number, make-book}
 

@@ -2,12 +2,12 @@
 -- 1 to 16 four-byte masks; the first makes a book, the others withdraw from it in turn.
 use mathlib.Core.Bool.{Bool, true, false, _&&_}
 use mathlib.Core.List.{List}
-use Prim.Native.Nat.{ℕ, zero, suc, _+_, _-_, _*_, _/_, _%_}
+use Prim.Native.Nat.{ℕ, zero, suc, _-_, _/_, _%_}
 use lib.Dec.{eqb, leb}
 use lib.ListN.{length, take, drop}
 use Rattle.statements.specs.Sets.{pick}
 use Rattle.statements.specs.Plants.{word, Plant, plantOf, plantFault}
-use Rattle.statements.specs.Books.{maskOk, lessMask, madeBook, withdrawnBook}
+use Rattle.statements.specs.Books.{maskAt, maskOk, lessMask, madeBook, withdrawnBook}
 use Rattle.listing.specs.Text.{listing, refusedText, badMasksText}
 
 -- the plant's bytes: they end where the header's total length says
@@ -21,10 +21,6 @@ maskPart input = drop (word 6 input) input
 -- the bytes of 1 to 16 masks, none of them cut
 unfoldable pub masksOk : List ℕ → Bool
 masksOk m = leb 4 (length m) && (leb (length m) 64 && eqb (length m % 4) 0)
-
--- mask k of some bytes
-unfoldable pub maskAt : List ℕ → ℕ → ℕ
-maskAt m k = word (2 * k) m + 65536 * word (2 * k + 1) m
 
 -- what masks come to: a refusal with its number, or the last book
 pub data Outcome : Type 0 where

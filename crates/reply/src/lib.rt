@@ -1,19 +1,20 @@
 // What `planbook` answers: from the bytes of a plant and its masks to the text that is printed.
 use books::make_book;
 use books::withdraw_moves;
+use format::plant::book_long;
 use format::plant_fault;
+use format::word::mask_at;
 use format::word::number;
 use listing::bad_masks_text;
 use listing::list_book;
 use listing::refused_text;
 ghost use mathlib.Core.Path.{_≡_};
 ghost use mathlib.Core.Bool.{true};
-ghost use Prim.Native.Nat.{_-_, _/_, _<_};
+ghost use Prim.Native.Nat.{_-_, _/_};
 ghost use lib.ListN.{length};
 ghost use Rattle.statements.specs.Plants.{plantOf, plantFault};
-ghost use Rattle.statements.specs.Books.{bookLong};
 ghost use Rattle.listing.specs.Buffers.{placed, placedLong};
-ghost use Rattle.reply.specs.Reply.{masksOk, maskAt, withdrawing, inTurn, replyTo};
+ghost use Rattle.reply.specs.Reply.{masksOk, withdrawing, inTurn, replyTo};
 ghost use Rattle.reply.specs.Steps.{Parted, Ready, Standing, Stepped, cameTo, Told};
 
 // The bytes of 1 to 16 masks, none of them cut.
@@ -21,14 +22,6 @@ fn masks_ok(masks: &[u8]) -> bool
     ensures { λ r. ⌜ r ≡ masksOk (now (masks .entry)) ⌝ }
 {
     (4 <= masks.len()) & ((masks.len() <= 64) & (masks.len() % 4 == 0))
-}
-
-// Mask k.
-fn mask_at(masks: &[u8], k: u8) -> u32
-    requires { ⌜ k < 16 ⌝ }
-    ensures { λ r. ⌜ r ≡ maskAt (now (masks .entry)) k ⌝ }
-{
-    (number(masks, 2 * k) as u32) + 65536 * (number(masks, 2 * k + 1) as u32)
 }
 
 // Withdraws a mask from a book of the plant, by way of a second buffer; returns the refusal's number or 0.
@@ -102,13 +95,6 @@ fn reply_in(
         return refused_text(fault, out);
     }
     list_book(book, out)
-}
-
-// The length of the plant's books.
-fn book_long(plant: &[u8]) -> usize
-    ensures { λ r. ⌜ r ≡ bookLong (plantOf (now (plant .entry)) .states) (plantOf (now (plant .entry)) .goals) ⌝ }
-{
-    16 + 4 * ((number(plant, 0) as usize) * (number(plant, 2) as usize))
 }
 
 // Room for the longest book.

@@ -4,4 +4,5 @@ pub mod Numbers
 pub mod First
 pub mod Iterate
 pub mod Joined
+pub mod Over
 pub mod Rising

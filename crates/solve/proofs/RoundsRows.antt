@@ -11,7 +11,7 @@ use native.Mathlib.Numerals.{add-one}
 use lib.Dec.{eqb, ltb}
 use lib.ListN.{length, getD, take, drop, take-append-drop}
 use lib.Seq.{drop-cons, take-add, drop-drop, length-take-le}
-use Rattle.statements.specs.Sets.{pick, joined, isIn, filter}
+use Rattle.statements.specs.Sets.{pick, joined, isIn, filter, over}
 use Rattle.statements.specs.Plants.{Plant, inGoal}
 use Rattle.statements.specs.Kept.{forced, keptWithin, level, waitOf, nearer, listedMove}
 use Rattle.statements.specs.Books.{lostMark}
@@ -145,6 +145,7 @@ module _ (p : Plant) (mask : ℕ) (kept : List ℕ) (some-goal : 0 < p .goals) (
 
   -- the entries are the rows, and what stood behind them before
   pub rows-written : new ≡ writtenRows p mask kept old
+  unfolding over
   rows-written =
       let size : p .states * (p .goals * 2) ≡ 2 * (p .states * p .goals) = omega arith in
       let taken : take (2 * (p .states * p .goals)) new ≡ rowNumbers p mask kept = rw (← size) rows-taken in

@@ -11,7 +11,7 @@ use borrow.Author.Tests.{eqb-false, not-true}
 use lib.Dec.{eqb, leb}
 use lib.ListN.{length, getD, take, replicate, length-replicate, getD-replicate}
 use lib.Seq.{length-take-le}
-use Rattle.statements.specs.Sets.{pick, every, numbers, isIn, filter}
+use Rattle.statements.specs.Sets.{pick, every, numbers, isIn, filter, over}
 use Rattle.statements.specs.Plants.{Plant}
 use Rattle.statements.specs.Kept.{forced, forcedAll}
 use Rattle.statements.specs.Books.{lostMark}
@@ -22,8 +22,8 @@ use Rattle.sets.proofs.Numbers.{every-at}
 use Rattle.sets.proofs.First.{first-range}
 use Rattle.sets.proofs.Iterate.{sifted-length, sifted-longer}
 use Rattle.kept.proofs.Kept.{forcedAll-holds, forcedAll-in, forcedAll-sifted}
-use Rattle.arrays.specs.Lists.{front, fitting, zeroed, hasFlag, flagList, column, stored, stays, stayList}
-use Rattle.arrays.proofs.Fronts.{front-done}
+use Rattle.arrays.specs.Lists.{fitting, zeroed, flagList, column, stored, stays, stayList}
+use Rattle.arrays.proofs.Sieves.{over-done}
 use Rattle.arrays.proofs.Marks.{zeroed-length, zeroed-in, zeroed-out}
 use Rattle.arrays.proofs.Columns.{stored-yes, column-is, column-stays, column-length, column-rest}
 use Rattle.arrays.proofs.Rows.{fitting-yes, flag-fits, stays-yes, stay-fits}
@@ -45,10 +45,10 @@ marked all new e =
     rw e (marks-are all, zeroed-length all (replicate 1024 lostMark) ∙ length-replicate 1024 lostMark)
 
 -- the whole set is copied to the front of an array
-pub copied : (all old new : List ℕ) → length all ≤ length old → new ≡ front (fitting all old) old
+pub copied : (all old new : List ℕ) → length all ≤ length old → new ≡ over (fitting all old) old
     → take (length all) new ≡ all
 copied all old new h e =
-    front-done all old new (length all) h refl (e ∙ ap (λ (ys : List ℕ). front ys old) (fitting-yes all old h)) .1
+    over-done all old new (length all) h refl (e ∙ ap (λ (ys : List ℕ). over ys old) (fitting-yes all old h)) .1
 
 -- the room for the rows, by the plant's numbers
 pub same-room : (p : Plant) (states goals : ℕ) (entries : List ℕ) → states ≡ p .states → goals ≡ p .goals
@@ -165,7 +165,7 @@ pub cut-done : (p : Plant) (mask : ℕ) (all : List ℕ) (kept : ℕ) → kept �
     → Sifted (numbers (p .states) 0) (take kept all) → p .states ≤ 1024 → (entries : List ℕ)
     → Columns p mask (take kept all) (p .goals) entries → (states goals : ℕ) → states ≡ p .states → goals ≡ p .goals
     → 2 * (states * goals) ≤ length entries → p .goals ≤ 8 → (new : List ℕ) (left : ℕ)
-    → left ≡ length (stayList entries goals kept all) → new ≡ front (stayList entries goals kept all) all
+    → left ≡ length (stayList entries goals kept all) → new ≡ over (stayList entries goals kept all) all
     → (left ≤ length new) × (take left new ≡ forcedAll (p .goals) p mask (take kept all))
 cut-done p mask all kept fits set small entries columns states goals es eg room few new left el en =
     let space = same-room p states goals entries es eg room in
@@ -175,21 +175,20 @@ cut-done p mask all kept fits set small entries columns states goals es eg room 
     let few-left = sifted-longer (numbers (p .states) 0) (forcedAll (p .goals) p mask (take kept all)) (take kept all)
     (forcedAll-sifted (p .goals) p mask (numbers (p .states) 0) (take kept all) set) set
     (λ x m. forcedAll-holds (p .goals) p mask (take kept all) x m .0) in
-    front-done (forcedAll (p .goals) p mask (take kept all)) all new left
+    over-done (forcedAll (p .goals) p mask (take kept all)) all new left
     (omega (arith, few-left, length-take-le kept all fits)) (el ∙ ap length is)
-    (en ∙ ap (λ (ys : List ℕ). front ys all) is)
+    (en ∙ ap (λ (ys : List ℕ). over ys all) is)
 
 -- the flagged states are listed at the front of an array
 pub flags-done : (start : List ℕ) (states : ℕ) (all new : List ℕ) (count : ℕ) → states ≤ length start
     → states ≤ length all → states ≤ 65536 → count ≡ length (flagList start states all)
-    → new ≡ front (flagList start states all) all
+    → new ≡ over (flagList start states all) all
     → (count ≤ length new) × (take count new ≡ filter (flagged start) (numbers states 0))
-unfolding hasFlag flagged
 flags-done start states all new count a b c ec en =
     let is = flag-fits start states all a b c in
-    let few = filter-length (hasFlag start) (numbers states 0) in
-    front-done (filter (hasFlag start) (numbers states 0)) all new count (omega (arith, length-numbers states 0))
-    (ec ∙ ap length is) (en ∙ ap (λ (ys : List ℕ). front ys all) is)
+    let few = filter-length (flagged start) (numbers states 0) in
+    over-done (filter (flagged start) (numbers states 0)) all new count (omega (arith, length-numbers states 0))
+    (ec ∙ ap length is) (en ∙ ap (λ (ys : List ℕ). over ys all) is)
 
 -- before the first goal there is no column
 pub columns-start : (p : Plant) (mask : ℕ) (all entries : List ℕ) → Columns p mask all 0 entries

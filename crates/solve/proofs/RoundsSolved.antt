@@ -27,9 +27,9 @@ neither true b = refl
 neither false b = refl
 
 module _ (s : List ℕ) (mask : ℕ) (start entries : List ℕ) where
-  -- it cannot work: 0, and the entries stay
+  -- it cannot work: the mark, and the entries stay
   pub not-solved : solvable s start entries ≡ false
-      → (0 ≡ solvedCount s mask start entries) × (entries ≡ solvedRows s mask start entries)
+      → (65535 ≡ solvedCount s mask start entries) × (entries ≡ solvedRows s mask start entries)
   unfolding solvedCount solvedRows
   not-solved e = (rw e, rw e)
 

@@ -5,10 +5,11 @@ use mathlib.Core.List.{List, [], _∷_, _++_}
 use Prim.Native.Nat.{ℕ, suc, _+_, _*_, _<_}
 use lib.Dec.{eqb, leb}
 use lib.ListN.{length, getD, drop}
-use Rattle.statements.specs.Sets.{pick, joined, iterate, isIn}
+use Rattle.statements.specs.Sets.{pick, joined, iterate, isIn, over}
 use Rattle.statements.specs.Plants.{Plant, plantOf, plantFault}
 use Rattle.statements.specs.Kept.{forcedAll, keptWithin, waitOf, listedMove}
 use Rattle.statements.specs.Books.{lostMark}
+unfoldable pub use Rattle.arrays.specs.Lists.{flagged}
 use Rattle.solve.specs.Reached.{reached, reachedBy}
 
 -- the entries hold the reach to each of the first n goals: wait, then move, by state and goal
@@ -30,21 +31,17 @@ rowNumbers p mask kept = joined (p .states) 0 (λ x. joined (p .goals) 0 (entryN
 
 -- the rows written over the first entries
 abbrev pub writtenRows : Plant → ℕ → List ℕ → List ℕ → List ℕ
-writtenRows p mask kept entries = let rows = rowNumbers p mask kept in rows ++ drop (length rows) entries
+writtenRows p mask kept entries = over (rowNumbers p mask kept) entries
 
 -- a plant that is accepted, a flag for each state and room for the rows
 unfoldable pub solvable : List ℕ → List ℕ → List ℕ → Bool
 solvable s start entries =
     eqb (plantFault s) 0 && (leb (plantOf s .states) (length start) && leb (2 * (plantOf s .states * plantOf s .goals)) (length entries))
 
--- the states with flag 1 are the start
-unfoldable pub flagged : List ℕ → ℕ → Bool
-flagged start x = eqb (getD start x 0) 1
-
--- the number kept, and the entries with the rows written; 0 and nothing where the solver cannot work
+-- the number kept, and the entries with the rows written; 65,535 and nothing where the solver cannot work
 unfoldable pub solvedCount : List ℕ → ℕ → List ℕ → List ℕ → ℕ
 solvedCount s mask start entries =
-    pick (solvable s start entries) (length (keptWithin (plantOf s) mask (flagged start))) 0
+    pick (solvable s start entries) (length (keptWithin (plantOf s) mask (flagged start))) lostMark
 
 unfoldable pub solvedRows : List ℕ → ℕ → List ℕ → List ℕ → List ℕ
 solvedRows s mask start entries =

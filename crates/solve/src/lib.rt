@@ -57,18 +57,18 @@ fn work(
 }
 
 // The rows of the book for a plant, the moves in service and a start: the states with flag 1. Returns the number kept.
-// Where the plant is refused or a slice is too short it returns 0 and writes nothing.
+// Where the plant is refused or a slice is too short it returns 65,535 and writes nothing.
 pub fn solve(plant: &[u8], mask: u32, start: &[u8], entries: &mut [u16]) -> u32
     ensures count { λ r. ⌜ r ≡ solvedCount (now (plant .entry)) mask (now (start .entry)) (now (entries .entry)) ⌝ }
     ensures rows { λ _. ⌜ now (entries .exit) ≡ solvedRows (now (plant .entry)) mask (now (start .entry)) (now (entries .entry)) ⌝ }
 {
     if plant_fault(plant) != 0 {
-        return 0;
+        return 65535;
     }
     let states = number(plant, 0) as usize;
     let goals = number(plant, 2) as usize;
     if (start.len() < states) | (entries.len() < 2 * (states * goals)) {
-        return 0;
+        return 65535;
     }
     let mut groups = [0u16; 1025];
     let mut starts = [0u16; 8193];

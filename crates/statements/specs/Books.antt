@@ -63,6 +63,10 @@ bookCount b = word 3 b
 unfoldable pub bookMask : List ℕ → ℕ
 bookMask b = word 4 b + 65536 * word 5 b
 
+-- mask k of a list of masks, four bytes each
+unfoldable pub maskAt : List ℕ → ℕ → ℕ
+maskAt m k = word (2 * k) m + 65536 * word (2 * k + 1) m
+
 unfoldable pub waitAt : List ℕ → ℕ → ℕ → ℕ
 waitAt b x i = word 0 (drop (16 + 4 * (x * bookGoals b + i)) b)
 

@@ -3,7 +3,7 @@ use mathlib.Core.Bool.{Bool, true, false, _&&_, _||_, not}
 use mathlib.Core.List.{List, [], _∷_, _++_}
 use Prim.Native.Nat.{ℕ, zero, suc, _+_, _-_, _*_, _/_, _%_, _^_}
 use lib.Dec.{eqb, ltb, leb}
-use lib.ListN.{length}
+use lib.ListN.{length, drop}
 
 -- if the test holds the one, otherwise the other
 abbrev pub pick : {A : Type 0} → Bool → A → A → A
@@ -33,6 +33,10 @@ first (suc n) x test = elim (test x) [ true ↦ x | false ↦ first n (suc x) te
 unfoldable pub joined : ℕ → ℕ → (ℕ → List ℕ) → List ℕ
 joined zero x part = []
 joined (suc n) x part = part x ++ joined n (suc x) part
+
+-- numbers written over the first of a list; those past them stay
+unfoldable pub over : List ℕ → List ℕ → List ℕ
+over new old = new ++ drop (length new) old
 
 -- a function applied n times
 unfoldable pub iterate : ℕ → (List ℕ → List ℕ) → List ℕ → List ℕ

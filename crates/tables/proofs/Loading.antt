@@ -9,7 +9,8 @@ use lib.ListN.{length, drop}
 use lib.Dec.{leb}
 use borrow.Author.Tests.{leb-true, le-leb, eq-eqb, ne-eqb}
 use Rattle.statements.specs.Plants.{word, Arrow, arrowsFrom, plantOf, headOk, plantFault}
-use Rattle.decoding.proofs.Faults.{and-iff, plant-tests, plant-ok}
+use Rattle.sets.proofs.Tests.{and-iff}
+use Rattle.decoding.proofs.Faults.{plant-tests, plant-ok}
 use Rattle.format.specs.declared.arrows.Arrow.{Arrow as ReadArrow}
 use Rattle.format.specs.Arrows.{arrowIn}
 use Rattle.format.proofs.Parts.{arrows-more}

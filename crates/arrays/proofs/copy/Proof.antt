@@ -5,15 +5,16 @@ use native.Mathlib.Omega.{arith}
 use lib.ListN.{length, take, length-set}
 use lib.Seq.{take-length}
 use denote.Ref.{now}
-use Rattle.arrays.specs.Lists.{front}
-use Rattle.arrays.proofs.Fronts.{front-none, copy-more}
+use Rattle.statements.specs.Sets.{over}
+use Rattle.sets.proofs.Over.{over-none}
+use Rattle.arrays.proofs.Sieves.{copy-more}
 use Rattle.arrays.proofs.Rows.{fitting-yes, fitting-no}
 use Rattle.arrays.proofs.copy.Statement.{statement}
 use Rattle.arrays.proofs.copy.Tie as tie
 
 abbrev Inv-loop : tie.InvT-loop
 Inv-loop from to₀ k₀ to k =
-    (k ≤ length from) × (length from ≤ length to₀) × (length to ≡ length to₀) × (to ≡ front (take k from) to₀)
+    (k ≤ length from) × (length from ≤ length to₀) × (length to ≡ length to₀) × (to ≡ over (take k from) to₀)
 
 abbrev μ-loop : tie.MeasureT-loop
 μ-loop from to₀ k₀ to k = length from - k
@@ -22,7 +23,7 @@ returns : tie.Need-returns Inv-loop μ-loop
 returns c = fitting-no _ _ (c .if1 .taken)
 
 loop-holds : tie.Need-loop-holds Inv-loop μ-loop
-loop-holds c = (omega arith, omega arith, refl, front-none _)
+loop-holds c = (omega arith, omega arith, refl, over-none _)
 
 mul-to : tie.Need-mul-to Inv-loop μ-loop
 mul-to c = omega arith

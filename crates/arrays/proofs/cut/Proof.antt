@@ -10,7 +10,7 @@ use borrow.Author.Tests.{not-true, not-false}
 use lib.ListN.{length, getD, take, length-set}
 use lib.Seq.{take-suc, length-take-le}
 use Rattle.arrays.specs.Lists.{stays}
-use Rattle.arrays.proofs.Fronts.{Sieved, sieve-none, sieve-at, sieve-yes, sieve-no}
+use Rattle.arrays.proofs.Sieves.{Sieved, sieve-none, sieve-at, sieve-yes, sieve-no}
 use Rattle.arrays.proofs.Rows.{stay-fits, stay-off, two-tests}
 use Rattle.arrays.proofs.cut.Statement.{statement}
 use Rattle.arrays.proofs.cut.Tie as tie

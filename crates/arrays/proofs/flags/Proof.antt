@@ -8,8 +8,8 @@ use borrow.Author.Tests.{eq-eqb, ne-eqb, not-true, not-false}
 use lib.ListN.{length, length-set}
 use Rattle.statements.specs.Sets.{numbers}
 use Rattle.sets.proofs.Members.{length-numbers}
-use Rattle.arrays.specs.Lists.{hasFlag}
-use Rattle.arrays.proofs.Fronts.{Sieved, sieve-none, sieve-yes, sieve-no, numbers-more}
+use Rattle.arrays.specs.Lists.{flagged}
+use Rattle.arrays.proofs.Sieves.{Sieved, sieve-none, sieve-yes, sieve-no, numbers-more}
 use Rattle.arrays.proofs.Rows.{flag-fits, flag-off, three-tests}
 use Rattle.arrays.proofs.flags.Statement.{statement}
 use Rattle.arrays.proofs.flags.Tie as tie
@@ -18,7 +18,7 @@ abbrev Inv-loop : tie.InvT-loop
 Inv-loop start states all₀ fits x₀ count₀ all x count =
     (x ≤ states) × (count ≤ x) × (length all ≡ length all₀)
     × ((states ≤ length start) × (states ≤ length all₀) × (states ≤ 65536))
-    × Sieved (hasFlag start) (numbers x 0) all₀ all count
+    × Sieved (flagged start) (numbers x 0) all₀ all count
 
 abbrev μ-loop : tie.MeasureT-loop
 μ-loop start states all₀ fits x₀ count₀ all x count = states - x
@@ -53,13 +53,13 @@ loop-less : tie.Need-loop-less Inv-loop μ-loop
 loop-less c = omega arith
 
 loop-again : tie.Need-loop-again Inv-loop μ-loop
-unfolding hasFlag
+unfolding flagged
 loop-again c =
     let t = c .before .before in
     let s = t .before .before .before .args in
     let l = t .before .loop in
     let long = length-numbers (l .x) 0 in
-    let f = hasFlag (s .start .now) in
+    let f = flagged (s .start .now) in
     ⊎-elim
     (λ w. (
       omega arith,

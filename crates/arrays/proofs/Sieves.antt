@@ -1,65 +1,31 @@
 -- A list whose front is written over number by number, and sieved from what is read. Assumes nothing.
 use mathlib.Core.Path.{_≡_, refl, sym, ap, _∙_}
-use mathlib.Core.Bool.{Bool, true, false, _&&_}
+use mathlib.Core.Bool.{Bool, true, false}
 use mathlib.Core.List.{List, [], _∷_, _++_, append-nil}
-use Prim.Native.Nat.{ℕ, zero, suc, _+_, _-_, _≤_, _<_}
+use Prim.Native.Nat.{ℕ, zero, suc, _+_, _≤_, _<_}
 use native.Mathlib.Nat.{add-zero, zero-add}
 use native.Mathlib.Numerals.{add-one}
 use native.Mathlib.Omega.{arith}
-use lib.ListN.{length, getD, take, drop, set, length-append, length-set}
-use lib.Seq.{take-suc, drop-cons, append-snoc, set-at, length-front, length-take-le, take-append-seam}
-use lib.Seq.{getD-append-add, getD-drop}
-use Rattle.statements.specs.Sets.{numbers, consIf, filter}
+use lib.ListN.{length, getD, take, set, length-append}
+use lib.Seq.{take-suc, length-take-le}
+use Rattle.statements.specs.Sets.{numbers, consIf, filter, over}
 use Rattle.sets.proofs.Members.{filter-length}
-use Rattle.arrays.specs.Lists.{front}
-
--- nothing is written yet
-pub front-none : (old : List ℕ) → old ≡ front [] old
-unfolding front
-front-none old = refl
-
--- what is written over the front stands there
-pub front-take : (xs old : List ℕ) → take (length xs) (front xs old) ≡ xs
-unfolding front
-front-take xs old = take-append-seam xs (drop (length xs) old)
-
--- the list is as long as it was
-pub front-length : (xs old : List ℕ) → length xs ≤ length old → length (front xs old) ≡ length old
-unfolding front
-front-length xs old h = length-front old xs (length xs) (sym (length-take-le (length xs) old h))
+use Rattle.sets.proofs.Over.{over-none, over-length, over-back, over-at, over-one}
 
 -- what a loop that writes a front leaves
-pub front-done : (xs old new : List ℕ) (n : ℕ) → length xs ≤ length old → n ≡ length xs → new ≡ front xs old
+pub over-done : (xs old new : List ℕ) (n : ℕ) → length xs ≤ length old → n ≡ length xs → new ≡ over xs old
     → (n ≤ length new) × (take n new ≡ xs)
-front-done xs old new n h en e =
-    let long = ap length e ∙ front-length xs old h in
-    (omega arith, rw (e, en) (front-take xs old))
-
--- one number more is written
-pub front-more : (xs old : List ℕ) (x : ℕ) → length xs < length old
-    → set (front xs old) (length xs) x ≡ front (xs ++ (x ∷ [])) old
-unfolding front
-front-more xs old x h =
-    let n : length (xs ++ (x ∷ [])) ≡ suc (length xs) = length-append xs (x ∷ []) ∙ add-one (length xs) in
-    rw (n, drop-cons old (length xs) 0, set-at xs _ _ x (length xs) refl, append-snoc)
+over-done xs old new n h en e =
+    let long = ap length e ∙ over-length xs old h in
+    (omega arith, rw e (over-back xs old n en))
 
 -- one number more is copied
 pub copy-more : (from old new : List ℕ) (k : ℕ) → k < length from → length from ≤ length old
-    → new ≡ front (take k from) old → set new k (getD from k 0) ≡ front (take (k + 1) from) old
+    → new ≡ over (take k from) old → set new k (getD from k 0) ≡ over (take (k + 1) from) old
 copy-more from old new k h room e =
     let n : length (take k from) ≡ k = length-take-le k from (omega arith) in
-    let more = front-more (take k from) old (getD from k 0) (omega arith) in
+    let more = over-one (take k from) old (getD from k 0) (omega arith) in
     rw (e, add-one, take-suc from k 0 h) (rw n at more)
-
--- past the front the list is as it was
-pub front-at : (xs old : List ℕ) (k : ℕ) → length xs ≤ k → getD (front xs old) k 0 ≡ getD old k 0
-unfolding front
-front-at xs old k h =
-    let e : k ≡ length xs + (k - length xs) = omega arith in
-    ap (λ (j : ℕ). getD (xs ++ drop (length xs) old) j 0) e
-    ∙ getD-append-add xs (drop (length xs) old) (k - length xs) 0
-    ∙ getD-drop (length xs) old (k - length xs) 0
-    ∙ ap (λ (j : ℕ). getD old j 0) (sym e)
 
 -- a filter of a list with one number more
 pub filter-snoc : (f : ℕ → Bool) (xs : List ℕ) (x : ℕ) → filter f (xs ++ (x ∷ [])) ≡ filter f xs ++ consIf (f x) x []
@@ -85,13 +51,13 @@ numbers-more n = rw (add-one n, numbers-snoc n 0, zero-add)
 
 -- the front of a list is what passes a test of a list read so far
 pub record Sieved (f : ℕ → Bool) (xs old new : List ℕ) (left : ℕ) : Type 0 where
-  pub new-is : new ≡ front (filter f xs) old
+  pub new-is : new ≡ over (filter f xs) old
   pub left-is : left ≡ length (filter f xs)
 
 -- nothing is read yet
 pub sieve-none : (f : ℕ → Bool) (old : List ℕ) → Sieved f [] old old 0
 unfolding filter
-sieve-none f old = record { new-is = front-none old; left-is = refl }
+sieve-none f old = record { new-is = over-none old; left-is = refl }
 
 module _ (f : ℕ → Bool) (xs old new : List ℕ) (left x : ℕ) (so-far : Sieved f xs old new left) where
   -- no more pass than were read
@@ -101,11 +67,11 @@ module _ (f : ℕ → Bool) (xs old new : List ℕ) (left x : ℕ) (so-far : Sie
   -- the list is as long as it was
   pub sieve-long : length xs ≤ length old → length new ≡ length old
   sieve-long h =
-      ap length (so-far .new-is) ∙ front-length (filter f xs) old (omega (arith, filter-length f xs))
+      ap length (so-far .new-is) ∙ over-length (filter f xs) old (omega (arith, filter-length f xs))
 
   -- what was not read is as it was
   pub sieve-at : (k : ℕ) → length xs ≤ k → getD new k 0 ≡ getD old k 0
-  sieve-at k h = rw (so-far .new-is) (front-at (filter f xs) old k (omega (arith, filter-length f xs)))
+  sieve-at k h = rw (so-far .new-is) (over-at (filter f xs) old k (omega (arith, filter-length f xs)))
 
   -- one that passes is put behind the front
   pub sieve-yes : length xs < length old → f x ≡ true → Sieved f (xs ++ (x ∷ [])) old (set new left x) (left + 1)
@@ -113,7 +79,7 @@ module _ (f : ℕ → Bool) (xs old new : List ℕ) (left x : ℕ) (so-far : Sie
       let more : filter f (xs ++ (x ∷ [])) ≡ filter f xs ++ (x ∷ []) = rw (filter-snoc f xs x, e) refl in
       record {
         new-is = rw (so-far .new-is, so-far .left-is, more)
-            (front-more (filter f xs) old x (omega (arith, filter-length f xs)));
+            (over-one (filter f xs) old x (omega (arith, filter-length f xs)));
         left-is = rw (more, length-append) (ap (λ (n : ℕ). n + 1) (so-far .left-is));
       }
 

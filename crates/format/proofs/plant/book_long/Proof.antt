@@ -1,13 +1,13 @@
--- `reply::book_long` meets its contract: a product of two-byte numbers fits. Assumes nothing.
+-- `format::plant::book_long` meets its contract: a product of two-byte numbers fits. Assumes nothing.
 use mathlib.Core.Path.{ap₂}
 use Prim.Native.Nat.{ℕ, _+_, _*_, _^_, _<_}
 use native.Mathlib.Omega.{arith}
 use Rattle.statements.specs.Plants.{plantOf}
 use Rattle.statements.specs.Books.{bookLong}
 use Rattle.format.proofs.Words.{product-below}
 use borrow.Author.Needs.{needs}
-use Rattle.reply.proofs.book_long.Statement.{statement}
-use Rattle.reply.proofs.book_long.Tie as tie
+use Rattle.format.proofs.plant.book_long.Statement.{statement}
+use Rattle.format.proofs.plant.book_long.Tie as tie
 
 number-requires : tie.Need-number-requires
 number-requires c κs = search needs

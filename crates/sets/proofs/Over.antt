@@ -1,0 +1,60 @@
+-- Numbers written over the first of a list. Assumes nothing.
+use mathlib.Core.Path.{_≡_, refl, sym, ap, _∙_}
+use mathlib.Core.List.{List, [], _∷_, _++_, append-assoc}
+use Prim.Native.Nat.{ℕ, suc, _+_, _-_, _≤_, _<_}
+use native.Mathlib.Numerals.{add-one}
+use native.Mathlib.Omega.{arith}
+use lib.ListN.{length, getD, take, drop, set, length-append, length-drop}
+use lib.Seq.{sets, sets-eq, set-at, take-append-seam, drop-append-add, drop-drop, drop-cons, append-snoc}
+use lib.Seq.{getD-append-add, getD-drop}
+use Rattle.statements.specs.Sets.{over}
+
+-- nothing is written yet
+pub over-none : (old : List ℕ) → old ≡ over [] old
+unfolding over
+over-none old = refl
+
+-- the list is as long as it was
+pub over-length : (xs old : List ℕ) → length xs ≤ length old → length (over xs old) ≡ length old
+unfolding over
+over-length xs old h = simp (length-append, length-drop) (omega arith)
+
+-- what is written is read back
+pub over-back : (xs old : List ℕ) (n : ℕ) → n ≡ length xs → take n (over xs old) ≡ xs
+unfolding over
+over-back xs old n e = rw e (take-append-seam xs (drop (length xs) old))
+
+-- past it the list is as it was
+pub over-at : (xs old : List ℕ) (k : ℕ) → length xs ≤ k → getD (over xs old) k 0 ≡ getD old k 0
+unfolding over
+over-at xs old k h =
+    let e : k ≡ length xs + (k - length xs) = omega arith in
+    ap (λ (j : ℕ). getD (xs ++ drop (length xs) old) j 0) e
+    ∙ getD-append-add xs (drop (length xs) old) (k - length xs) 0
+    ∙ getD-drop (length xs) old (k - length xs) 0
+    ∙ ap (λ (j : ℕ). getD old j 0) (sym e)
+
+-- one number more is written
+pub over-one : (xs old : List ℕ) (x : ℕ) → length xs < length old
+    → set (over xs old) (length xs) x ≡ over (xs ++ (x ∷ [])) old
+unfolding over
+over-one xs old x h =
+    let n : length (xs ++ (x ∷ [])) ≡ suc (length xs) = length-append xs (x ∷ []) ∙ add-one (length xs) in
+    rw (n, drop-cons old (length xs) 0, set-at xs _ _ x (length xs) refl, append-snoc)
+
+-- several numbers more
+pub over-more : (xs ys old : List ℕ) → length xs + length ys ≤ length old
+    → sets (over xs old) (length xs) ys ≡ over (xs ++ ys) old
+unfolding over
+over-more xs ys old h =
+    let short : length xs ≤ length old = omega arith in
+    let fits : length xs + length ys ≤ length (over xs old) = rw over-length h in
+    sets-eq ys (over xs old) (length xs) fits
+    ∙ rw (take-append-seam xs, drop-append-add xs, drop-drop, length-append)
+
+-- numbers that replace those past the ones written
+pub over-after : (xs ys old : List ℕ) {new : List ℕ} → new ≡ over xs old
+    → take (length xs) new ++ (ys ++ drop (length xs + length ys) new) ≡ over (xs ++ ys) old
+unfolding over
+over-after xs ys old e =
+    rw (e, take-append-seam xs, drop-append-add xs, drop-drop, length-append, append-assoc)
