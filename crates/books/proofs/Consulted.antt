@@ -1,41 +1,22 @@
 -- Consulting a book and handing back a row, case by case: refused, lost, kept. Assumes nothing.
-use mathlib.Core.Path.{_≡_, refl, sym, ap, ap₂, _∙_}
-use mathlib.Core.Bool.{Bool, true, false, _||_, not, true≢false}
+use mathlib.Core.Path.{_≡_, sym, ap, ap₂, _∙_}
+use mathlib.Core.Bool.{true, false, not}
 use mathlib.Core.List.{List, []}
 use Prim.Native.Nat.{ℕ, _+_, _-_, _*_, _≤_, _<_}
 use native.Mathlib.Omega.{arith}
-use lib.Dec.{eqb, leb}
+use lib.Dec.{eqb}
 use lib.ListN.{length, take, drop, length-drop}
 use lib.Seq.{length-take-le}
 use borrow.Author.Tests.{eq-eqb, ne-eqb, leb-false}
-use Rattle.statements.specs.Books.{bookStates, bookGoals, waitAt, moveAt, isLost, bookFault, nextGoal}
+use Rattle.statements.specs.Books.{bookStates, bookGoals, waitAt, moveAt, isLost, nextGoal}
 use Rattle.statements.specs.Calls.{consultFault, rowPart}
 use Rattle.books.specs.Says.{accepted, keeps, ConsultSays, rowStart}
+use Rattle.sets.proofs.Tests.{or-neither}
 use Rattle.format.proofs.Header.{BookHead, book-head}
-use Rattle.format.proofs.Faults.{first-given, both-none, when-none, book-fine}
+use Rattle.format.proofs.Faults.{both-none, when-none, book-fine}
 use Rattle.format.proofs.Rows.{row-within}
 
--- a test of two that fails
-or-false : (a b : Bool) → (a || b) ≡ false → (a ≡ false) × (b ≡ false)
-or-false true b e = (e, absurd (true≢false e))
-or-false false b e = (refl, e)
-
 module _ (b : List ℕ) (x i : ℕ) where
-  -- a book that is not accepted gives its own answer
-  pub refused-book : (bookFault b ≡ 0 → ⊥) → consultFault b x i ≡ bookFault b
-  unfolding consultFault
-  refused-book h = first-given (bookFault b) _ h
-
-  -- a number out of range gives 8
-  pub refused-number : bookFault b ≡ 0 → (leb (bookStates b) x || leb (bookGoals b) i) ≡ true → consultFault b x i ≡ 8
-  unfolding consultFault
-  refused-number h t = rw (h, t)
-
-  -- otherwise the call is accepted
-  pub none-refused : bookFault b ≡ 0 → (leb (bookStates b) x || leb (bookGoals b) i) ≡ false → consultFault b x i ≡ 0
-  unfolding consultFault
-  none-refused h t = rw (h, t)
-
   -- what an accepted call may rely on
   pub record Fine : Type 0 where
     pub head : BookHead b
@@ -47,7 +28,7 @@ module _ (b : List ℕ) (x i : ℕ) where
   unfolding consultFault
   fine e =
       let f = both-none _ _ e in
-      let t = or-false _ _ (when-none _ 7 (f .1)) in
+      let t = or-neither _ _ (when-none _ 7 (f .1)) in
       record {
         head = book-head b (book-fine b (f .0) .head);
         state = leb-false _ _ (t .0);

@@ -1,79 +1,30 @@
--- Making and withdrawing: what the solver gives for flags of states, the book that these flags give, and what the calls
--- answer, refused and accepted. Assumes nothing.
+-- Making and withdrawing: the book that flags of states give, and what the calls answer, refused and accepted. Assumes
+-- nothing.
 use mathlib.Core.Path.{_≡_, refl, sym, ap, _∙_}
-use mathlib.Core.Bool.{Bool, true, _&&_, not}
+use mathlib.Core.Bool.{Bool, true}
 use mathlib.Core.List.{List}
 use Prim.Native.Nat.{ℕ, _-_, _*_, _≤_, _<_}
-use native.Mathlib.Nat.{mul-le-mul}
 use native.Mathlib.Omega.{arith}
 use lib.ListN.{length, take}
-use lib.Seq.{take-at}
 use lib.Bits.{bitAnd}
-use borrow.Author.Tests.{eq-eqb, ne-eqb, le-leb, leb-true}
+use borrow.Author.Tests.{ne-eqb, leb-true}
 use Rattle.statements.specs.Sets.{over}
 use Rattle.statements.specs.Plants.{Plant, plantOf, plantFault, allowed}
 use Rattle.statements.specs.Kept.{keptWithin}
-use Rattle.statements.specs.Books.{bytesOf, bookBytes, bookLong, bookStates, bookMask, isLost, lessMask, bookWithin}
-use Rattle.statements.specs.Books.{madeBook, keptBefore, withdrawnBook, droppedStates}
+use Rattle.statements.specs.Books.{bookBytes, bookLong, bookStates, bookMask, lessMask, bookWithin}
+use Rattle.statements.specs.Books.{madeBook, keptBefore, withdrawnBook}
 use Rattle.statements.specs.Calls.{bookRoom, dropRoom, makeFault, withdrawFault}
-use Rattle.sets.proofs.Tests.{and-true}
-use Rattle.sets.proofs.Members.{length-numbers}
-use Rattle.sets.proofs.Iterate.{sifted-length}
-use Rattle.kept.proofs.Kept.{kept-sifted}
-use Rattle.decoding.proofs.Faults.{plant-ok, withdraw-ok}
+use Rattle.sets.proofs.Over.{over-back}
+use Rattle.decoding.proofs.Faults.{make-ok, withdraw-ok}
 use Rattle.decoding.proofs.Header.{book-length}
-use Rattle.solve.specs.Rows.{rowNumbers, solvable, flagged, solvedCount, solvedRows}
-use Rattle.solve.proofs.RoundsSolved.{solved}
+use Rattle.arrays.specs.Lists.{flagged}
+use Rattle.writing.specs.Written.{writtenLong, writtenBook, droppedCount, writtenDrops}
+pub use Rattle.writing.proofs.Solved.{states-few, entries-few}
+use Rattle.writing.proofs.Solved.{can-write, written}
+use Rattle.writing.proofs.Drops.{room-listed}
 use Rattle.books.specs.Says.{MakeSays, WithdrawSays}
 use Rattle.books.proofs.Started.{kept-same}
-use Rattle.sets.proofs.Over.{over-back}
-use Rattle.books.proofs.Written.{rows-count}
-use Rattle.books.proofs.Dropped.{dropped-listed}
-
-module _ (s : List ℕ) (fine : plantFault s ≡ 0) where
-  -- an accepted plant has few states
-  pub states-few : plantOf s .states ≤ 1024
-  states-few = plant-ok s fine .sizes .states-most
-
-  -- and few entries
-  pub entries-few : plantOf s .states * plantOf s .goals ≤ 1024 * 8
-  entries-few = let z = plant-ok s fine .sizes in mul-le-mul (z .states-most) (z .goals-most)
-
-  module _ (mask : ℕ) (start entries : List ℕ) (flags : plantOf s .states ≤ length start)
-      (room : 16384 ≤ length entries) where
-    -- the states kept
-    abbrev Kept : List ℕ
-    Kept = keptWithin (plantOf s) mask (flagged start)
-
-    -- the solver can work
-    can-solve : solvable s start entries ≡ true
-    unfolding solvable
-    can-solve =
-        let wide : 2 * (plantOf s .states * plantOf s .goals) ≤ length entries = omega (arith, entries-few) in
-        and-true (eq-eqb _ _ fine) (and-true (le-leb _ _ flags) (le-leb _ _ wide))
-
-    -- it returns how many they are
-    pub solved-count : {r : ℕ} → r ≡ solvedCount s mask start entries → length Kept ≡ r
-    solved-count e = solved s mask start entries can-solve .0 ∙ sym e
-
-    -- that is few
-    pub solved-few : {r : ℕ} → r ≡ solvedCount s mask start entries → r ≤ 1024
-    solved-few e =
-        let p = plantOf s in
-        omega (
-          arith,
-          solved-count e,
-          sifted-length _ Kept (kept-sifted p mask (flagged start)),
-          length-numbers (p .states) 0,
-          states-few,
-        )
-
-    -- and the first of its entries are their rows
-    pub solved-rows : {r : List ℕ} (n : ℕ) → n ≡ 2 * (plantOf s .states * plantOf s .goals)
-        → r ≡ solvedRows s mask start entries → take n r ≡ rowNumbers (plantOf s) mask Kept
-    solved-rows n e er =
-        rw (er, ← solved s mask start entries can-solve .1)
-        (over-back (rowNumbers (plantOf s) mask Kept) entries n (e ∙ sym (rows-count (plantOf s) mask Kept)))
+use Rattle.books.proofs.Listed.{dropped-listed}
 
 module _ (p : Plant) (mask : ℕ) (test : ℕ → Bool) where
   -- flags that agree with a test on the states give the book of that test
@@ -96,6 +47,15 @@ pub drops-fit : (p : Plant) (room : ℕ) → dropRoom p room ≡ true → 2 * p 
 unfolding dropRoom
 drops-fit p room h = leb-true _ _ h
 
+-- a book for an accepted plant, with a flag for each state there can be and room for the book, is written
+within-written : (s : List ℕ) (mask : ℕ) (flags o : List ℕ) → plantFault s ≡ 0 → bookRoom (plantOf s) (length o) ≡ true
+    → 1024 ≤ length flags
+    → (writtenLong s flags o ≡ bookLong (plantOf s .states) (plantOf s .goals))
+    × (writtenBook s mask flags o ≡ over (bookWithin (plantOf s) mask (flagged flags)) o)
+within-written s mask flags o fine room size =
+    written s mask flags o
+    (can-write s flags o fine (omega (arith, states-few s fine)) (book-fits (plantOf s) (length o) room))
+
 -- what make answers
 module _ (s : List ℕ) (mask : ℕ) (o : List ℕ) where
   -- refused
@@ -107,28 +67,21 @@ module _ (s : List ℕ) (mask : ℕ) (o : List ℕ) where
 
   -- accepted: the book of flags for the allowed states is written
   pub make-done : (flags : List ℕ) (long : ℕ) {o′ : List ℕ} → makeFault s mask (length o) ≡ 0
+      → 1024 ≤ length flags
       → ((x : ℕ) → x < plantOf s .states → flagged flags x ≡ allowed (plantOf s) x)
-      → long ≡ bookLong (plantOf s .states) (plantOf s .goals)
-      → o′ ≡ over (bookWithin (plantOf s) mask (flagged flags)) o
+      → long ≡ writtenLong s flags o → o′ ≡ writtenBook s mask flags o
       → MakeSays s mask o o′ (record { number = 0; length = long; drops = 0 })
   unfolding madeBook
-  make-done flags long e h el eo =
+  make-done flags long e size h el eo =
       let p = plantOf s in
+      let ok = make-ok s mask (length o) e in
+      let w = within-written s mask flags o (ok .plant) (ok .room-ok) size in
       record {
         number = sym e;
-        length-is = el ∙ sym (within-length p mask (allowed p));
+        length-is = el ∙ w .0 ∙ sym (within-length p mask (allowed p));
         drops = refl;
-        book = eo ∙ ap (λ (b : List ℕ). over b o) (within-same p mask (allowed p) flags h);
+        book = eo ∙ w .1 ∙ ap (λ (b : List ℕ). over b o) (within-same p mask (allowed p) flags h);
       }
-
--- the flags of the allowed states, taken from those lost in a book
-pub kept-flags : (p : Plant) (b flags flags′ : List ℕ) → bookStates b ≡ p .states
-    → ((x : ℕ) → x < p .states → flagged flags x ≡ allowed p x)
-    → ((x : ℕ) → x < bookStates b → flagged flags′ x ≡ (flagged flags x && not (isLost b x)))
-    → (x : ℕ) → x < p .states → flagged flags′ x ≡ keptBefore p b x
-unfolding keptBefore
-kept-flags p b flags flags′ e first then x h =
-    then x (omega arith) ∙ ap (λ (t : Bool). t && not (isLost b x)) (first x h)
 
 -- what withdraw answers
 module _ (s b : List ℕ) (gone : ℕ) (o d : List ℕ) where
@@ -162,26 +115,27 @@ module _ (s b : List ℕ) (gone : ℕ) (o d : List ℕ) where
   -- accepted: that book is written, and the states dropped, by what is read back of it
   pub withdraw-done : (flags : List ℕ) (old long count : ℕ) {o′ d′ : List ℕ}
       → withdrawFault s b gone (length o) (length d) ≡ 0
+      → 1024 ≤ length flags
       → ((x : ℕ) → x < plantOf s .states → flagged flags x ≡ keptBefore (plantOf s) b x)
       → old ≡ bookMask b
-      → long ≡ bookLong (plantOf s .states) (plantOf s .goals)
-      → o′ ≡ over (bookWithin (plantOf s) (old - bitAnd old gone) (flagged flags)) o
-      → count ≡ length (droppedStates b (take long o′))
-      → d′ ≡ over (bytesOf (droppedStates b (take long o′))) d
+      → long ≡ writtenLong s flags o → o′ ≡ writtenBook s (old - bitAnd old gone) flags o
+      → count ≡ droppedCount b (take long o′) d → d′ ≡ writtenDrops b (take long o′) d
       → WithdrawSays s b gone o o′ d d′ (record { number = 0; length = long; drops = count })
-  withdraw-done flags old long count {o′} e h em el eo ec ed =
+  withdraw-done flags old long count {o′} e many h em el eo ec ed =
       let p = plantOf s in
       let ok = withdraw-ok s b gone (length o) (length d) e in
       let new = withdrawnBook p b gone in
-      let size : long ≡ length new = el ∙ sym withdrawn-length in
-      let wrote : o′ ≡ over new o = eo ∙ ap (λ (w : List ℕ). over w o) (withdrawn-is flags old em h) in
+      let w = within-written s (old - bitAnd old gone) flags o (ok .plant) (ok .room-ok) many in
+      let size : long ≡ length new = el ∙ w .0 ∙ sym withdrawn-length in
+      let wrote : o′ ≡ over new o = eo ∙ w .1 ∙ ap (λ (l : List ℕ). over l o) (withdrawn-is flags old em h) in
       let back : take long o′ ≡ new = ap (take long) wrote ∙ over-back new o long size in
+      let room : 2 * bookStates b ≤ length d = omega (arith, drops-fit p (length d) (ok .drops-ok), ok .states) in
+      let gone-states = room-listed b new d room in
       record {
         number = sym e;
         length-is = size;
-        drops = rw back at ec;
+        drops = rw back at ec ∙ gone-states .0;
         book = wrote;
-        listed = λ _.
-            dropped-listed b new d (omega (arith, drops-fit p (length d) (ok .drops-ok), ok .states)) (rw back at ed);
+        listed = λ _. dropped-listed b new d room (rw back at ed ∙ gone-states .1);
         unlisted = λ z. absurd (z refl);
       }

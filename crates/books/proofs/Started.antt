@@ -1,7 +1,7 @@
 -- Flags of states, as a loop over the states sets them, and the states kept by what the flags say. Assumes nothing.
-use mathlib.Core.Path.{_≡_, refl, sym, ap, _∙_}
+use mathlib.Core.Path.{_≡_, refl, ap, _∙_}
 use mathlib.Core.Logic.{inl, inr}
-use mathlib.Core.Bool.{Bool, true, false, _&&_, not}
+use mathlib.Core.Bool.{Bool, true, false}
 use mathlib.Core.List.{List}
 use Prim.Native.Nat.{ℕ, _+_, _≤_, _<_}
 use native.Mathlib.Omega.{arith}
@@ -12,33 +12,31 @@ use mir.Val.{boolByte}
 use Rattle.statements.specs.Sets.{numbers, iterate}
 use Rattle.statements.specs.Plants.{Plant}
 use Rattle.statements.specs.Kept.{forcedAll, keptRound, keptWithin}
-use Rattle.statements.specs.Books.{isLost}
-use Rattle.solve.specs.Rows.{flagged}
+use Rattle.arrays.specs.Lists.{flagged}
 use Rattle.sets.proofs.Tests.{same-number}
 use Rattle.sets.proofs.Members.{filter-same, numbers-holds}
 
 -- the flag that was set, and any other one
-pub flag-set : (l : List ℕ) (x v : ℕ) → x < length l → flagged (set l x v) x ≡ eqb v 1
+flag-set : (l : List ℕ) (x v : ℕ) → x < length l → flagged (set l x v) x ≡ eqb v 1
 unfolding flagged
 flag-set l x v h = rw (getD-set-same l x v 0 h)
 
-pub flag-other : (l : List ℕ) (x y v : ℕ) → (y ≡ x → ⊥) → flagged (set l x v) y ≡ flagged l y
+flag-other : (l : List ℕ) (x y v : ℕ) → (y ≡ x → ⊥) → flagged (set l x v) y ≡ flagged l y
 unfolding flagged
 flag-other l x y v h = rw (getD-set-other l x y v 0 h)
 
 -- a test as a flag
-pub flag-byte : (t : Bool) → eqb (boolByte t) 1 ≡ t
+flag-byte : (t : Bool) → eqb (boolByte t) 1 ≡ t
 flag-byte true = refl
 flag-byte false = refl
 
--- a loop over n states: state x is next; the flags passed are as a test says, and the others as they were
+-- a loop over n states: state x is next, and the flags passed are as a test says
 pub record FlagsSoFar (want : ℕ → Bool) (n : ℕ) (l l′ : List ℕ) (x : ℕ) : Type 0 where
   pub few : n < 65536
   pub room : n ≤ length l
   pub size : length l′ ≡ length l
   pub within : x ≤ n
   pub passed : (y : ℕ) → y < x → flagged l′ y ≡ want y
-  pub ahead : (y : ℕ) → x ≤ y → flagged l′ y ≡ flagged l y
 
 -- where the loop begins
 pub flags-start : (want : ℕ → Bool) (n : ℕ) (l : List ℕ) → n < 65536 → n ≤ length l → FlagsSoFar want n l l 0
@@ -49,13 +47,13 @@ flags-start want n l f h =
       size = refl;
       within = omega arith;
       passed = λ y b. absurd (omega arith);
-      ahead = λ y b. refl;
     }
 
 module _ {want : ℕ → Bool} {n : ℕ} {l l′ : List ℕ} {x : ℕ} (r : FlagsSoFar want n l l′ x) (more : x < n) where
   -- the next flag is set
-  pub flags-set : (v : ℕ) → eqb v 1 ≡ want x → FlagsSoFar want n l (set l′ x v) (x + 1)
-  flags-set v e =
+  pub flags-more : (t : Bool) → t ≡ want x → FlagsSoFar want n l (set l′ x (boolByte t)) (x + 1)
+  flags-more t e =
+      let v = boolByte t in
       let short : x < length l′ = omega (arith, r .room, r .size) in
       record {
         few = r .few;
@@ -64,50 +62,10 @@ module _ {want : ℕ → Bool} {n : ℕ} {l l′ : List ℕ} {x : ℕ} (r : Flag
         within = omega arith;
         passed = λ y b.
             elim (same-number y x) [
-              | inl s ↦ rw s (flag-set l′ x v short ∙ e)
+              | inl s ↦ rw s (flag-set l′ x v short ∙ flag-byte t ∙ e)
               | inr d ↦ flag-other l′ x y v d ∙ r .passed y (omega arith)
             ];
-        ahead = λ y b. flag-other l′ x y v (λ s. omega arith) ∙ r .ahead y (omega arith);
       }
-
-  -- it is right as it is
-  pub flags-stay : flagged l x ≡ want x → FlagsSoFar want n l l′ (x + 1)
-  flags-stay e =
-      record {
-        few = r .few;
-        room = r .room;
-        size = r .size;
-        within = omega arith;
-        passed = λ y b.
-            elim (same-number y x) [
-              | inl s ↦ rw s (r .ahead x (omega arith) ∙ e)
-              | inr d ↦ r .passed y (omega arith)
-            ];
-        ahead = λ y b. r .ahead y (omega arith);
-      }
-
--- a flag is taken from each state that is lost in a book
-unfoldable pub keptFlag : List ℕ → List ℕ → ℕ → Bool
-keptFlag b l x = flagged l x && not (isLost b x)
-
--- a test with one that fails, and with one that holds
-and-lost : (a : Bool) → (a && false) ≡ false
-and-lost true = refl
-and-lost false = refl
-
-and-kept : (a : Bool) → (a && true) ≡ a
-and-kept true = refl
-and-kept false = refl
-
-module _ (b : List ℕ) {n : ℕ} {l l′ : List ℕ} {x : ℕ} (r : FlagsSoFar (keptFlag b l) n l l′ x) (more : x < n) where
-  -- the next state is lost, and kept
-  pub flags-lost : isLost b x ≡ true → FlagsSoFar (keptFlag b l) n l (set l′ x 0) (x + 1)
-  unfolding keptFlag
-  flags-lost e = flags-set r more 0 (rw e (sym (and-lost (flagged l x))))
-
-  pub flags-kept : isLost b x ≡ false → FlagsSoFar (keptFlag b l) n l l′ (x + 1)
-  unfolding keptFlag
-  flags-kept e = flags-stay r more (rw e (sym (and-kept (flagged l x))))
 
 -- tests that agree on the states keep the same states
 pub kept-same : (p : Plant) (mask : ℕ) (f g : ℕ → Bool) → ((x : ℕ) → x < p .states → f x ≡ g x)

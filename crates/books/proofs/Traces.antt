@@ -1,22 +1,18 @@
 -- Demand 3 over traces of calls follows from demand 3 over lists of masks and lengths: by its promise each step does to
 -- the standing book, and answers, what the definitions say of its mask and its buffers' lengths. Assumes nothing.
 use mathlib.Core.Path.{_≡_, refl, sym, _∙_, ap}
-use mathlib.Core.Logic.{_↔_}
 use mathlib.Core.Bool.{Bool, true, false}
-use mathlib.Core.List.{List, [], _∷_, _++_}
+use mathlib.Core.List.{List, [], _∷_}
 use Prim.Native.Nat.{ℕ}
 use lib.Dec.{eqb}
 use lib.ListN.{length, take}
 use borrow.Author.Tests.{eq-eqb}
-use Rattle.books.specs.declared.Answer.{Answer}
 use Rattle.statements.specs.Sets.{pick, over}
 use Rattle.statements.specs.Plants.{plantOf}
 use Rattle.statements.specs.Books.{madeBook, withdrawnBook}
 use Rattle.statements.specs.Calls.{makeFault, answerOf, writtenBy, standingAfter, standing, answers}
-use Rattle.statements.specs.Demands.{Demand-3}
 use Rattle.demands.proofs.Demand2.{demand-2}
 use Rattle.demands.proofs.Demand3.{demand-3}
-use Rattle.books.specs.Says.{MakeSays, WithdrawSays}
 use Rattle.books.specs.Traces.{Step, made, withdrew, answerIn, bufferIn, Keeps, nextBook, lastBook, Trace}
 use Rattle.books.specs.Traces.{numbersIn, callOf, callsOf, Begun, bookAfter, serviceAfter, Demand-3-traced}
 use Rattle.books.specs.Traces.{Demands}

@@ -1,4 +1,4 @@
-// What consulting a book takes: the refusals, the goal to seek next, and the advice for a kept state.
+// The advice for a kept state.
 use crate::Advice;
 ghost use mathlib.Core.Path.{_≡_};
 ghost use mathlib.Core.Bool.{false};
@@ -8,22 +8,6 @@ ghost use Rattle.statements.specs.Sets.{pick};
 ghost use Rattle.statements.specs.Books.{isLost};
 ghost use Rattle.statements.specs.Calls.{consultFault};
 ghost use Rattle.books.specs.Says.{ConsultSays};
-
-// The number that a call on a book, a state and a goal returns: 4, 5, 8, or 0 when it is accepted.
-pub(crate) fn fault(book: &[u8], state: u32, goal: u32) -> u8
-    ensures { λ r. ⌜ r ≡ consultFault (now (book .entry)) state goal ⌝ }
-{
-    let number = format::book_fault(book);
-    if number != 0 {
-        return number;
-    }
-    let states = format::word::number(book, 0) as u32;
-    let goals = format::word::number(book, 2) as u32;
-    if (states <= state) | (goals <= goal) {
-        return 8;
-    }
-    0
-}
 
 // The goal to seek next: the same one, or at wait 0 the next, after the last the first.
 fn next_goal(wait: u16, goals: u16, goal: u16) -> u16

@@ -1,8 +1,6 @@
 // The public calls: make a control book, withdraw moves from one, consult it for a move, hand back a state's row.
 mod consult;
-mod refuse;
 mod start;
-mod write;
 
 ghost use mathlib.Core.Path.{_≡_};
 ghost use mathlib.Core.Bool.{not};
@@ -27,7 +25,7 @@ pub struct Advice {
 pub fn consult_book(book: &[u8], state: u32, goal: u32) -> Advice
     ensures { λ r. ⌜ ConsultSays (now (book .entry)) state goal r ⌝ }
 {
-    let fault = consult::fault(book, state, goal);
+    let fault = refusals::consult(book, state, goal);
     if fault != 0 {
         return Advice {
             number: fault,
@@ -56,7 +54,7 @@ pub fn state_row<'a>(book: &'a [u8], state: u32) -> &'a [u8]
     ensures place { λ r. ⌜ r .ptr .1 ≡ book .entry .ptr .1 + rowStart (now (book .entry)) state ⌝ }
     ensures empty { λ r. ⌜ eqb (length (now r)) 0 ≡ not (accepted (now (book .entry)) state 0) ⌝ }
 {
-    if consult::fault(book, state, 0) != 0 {
+    if refusals::consult(book, state, 0) != 0 {
         return &book[..0];
     }
     let start = format::book::entry_place(book, state, 0);
@@ -77,7 +75,7 @@ pub fn make_book(plant: &[u8], mask: u32, out: &mut [u8]) -> Answer
     ensures { λ r. ⌜ MakeSays (now (plant .entry)) mask (now (out .entry)) (now (out .exit)) r ⌝ }
     ensures demands { λ _. ⌜ Demands ⌝ }
 {
-    let fault = refuse::make(plant, mask, out.len());
+    let fault = refusals::make(plant, mask, out.len());
     if fault != 0 {
         return Answer {
             number: fault,
@@ -87,7 +85,7 @@ pub fn make_book(plant: &[u8], mask: u32, out: &mut [u8]) -> Answer
     }
     let mut flags = [0u8; 1024];
     start::allowed(plant, &mut flags);
-    let length = write::book(plant, mask, &flags, out);
+    let length = writing::book(plant, mask, &flags, out);
     Answer {
         number: 0,
         length: length,
@@ -104,10 +102,11 @@ pub fn withdraw_moves(
     out: &mut [u8],
     drops: &mut [u8],
 ) -> Answer
-    ensures { λ r. ⌜ WithdrawSays (now (plant .entry)) (now (book .entry)) mask (now (out .entry)) (now (out .exit)) (now (drops .entry)) (now (drops .exit)) r ⌝ }
+    ensures { λ r. ⌜ WithdrawSays (now (plant .entry)) (now (book .entry)) mask
+        (now (out .entry)) (now (out .exit)) (now (drops .entry)) (now (drops .exit)) r ⌝ }
     ensures demands { λ _. ⌜ Demands ⌝ }
 {
-    let fault = refuse::withdraw(plant, book, mask, out.len(), drops.len());
+    let fault = refusals::withdraw(plant, book, mask, out.len(), drops.len());
     if fault != 0 {
         return Answer {
             number: fault,
@@ -116,11 +115,10 @@ pub fn withdraw_moves(
         };
     }
     let mut flags = [0u8; 1024];
-    start::allowed(plant, &mut flags);
-    start::kept(book, &mut flags);
+    start::kept(plant, book, &mut flags);
     let old = format::book::mask(book);
-    let length = write::book(plant, old - (old & mask), &flags, out);
-    let count = write::dropped(book, &out[..length as usize], drops);
+    let length = writing::book(plant, old - (old & mask), &flags, out);
+    let count = writing::dropped(book, &out[..length as usize], drops);
     Answer {
         number: 0,
         length: length,

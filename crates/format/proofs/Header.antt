@@ -10,19 +10,11 @@ use lib.ListN.{length}
 use Rattle.statements.specs.Plants.{word, headOk}
 use Rattle.statements.specs.Books.{bookStates, bookMoves, bookGoals, bookMask, bookLong, maskOk, bookHeadOk}
 use Rattle.sets.proofs.Tests.{and-iff, leb-iff, eqb-iff}
-
--- counts of states, moves and goals in range
-pub record Counts (states moves goals : ℕ) : Type 0 where
-  pub states-some : 1 ≤ states
-  pub states-most : states ≤ 1024
-  pub moves-some : 1 ≤ moves
-  pub moves-most : moves ≤ 32
-  pub goals-some : 1 ≤ goals
-  pub goals-most : goals ≤ 8
+use Rattle.decoding.proofs.Sizes.{Sizes}
 
 -- what a good header says of a plant
 pub record PlantHead (s : List ℕ) : Type 0 where
-  pub counts : Counts (word 0 s) (word 1 s) (word 2 s)
+  pub sizes : Sizes (word 0 s) (word 1 s) (word 2 s)
   pub arrows-most : word 3 s ≤ 8192
   pub long : length s ≡ 16 + (2 * word 0 s + 6 * word 3 s)
 
@@ -35,7 +27,7 @@ plant-head s h =
 
 -- what a good header says of a book
 pub record BookHead (b : List ℕ) : Type 0 where
-  pub counts : Counts (bookStates b) (bookMoves b) (bookGoals b)
+  pub sizes : Sizes (bookStates b) (bookMoves b) (bookGoals b)
   pub mask-in : maskOk (bookMoves b) (bookMask b) ≡ true
   pub long : length b ≡ 16 + 4 * (bookStates b * bookGoals b)
 
@@ -44,4 +36,4 @@ pub book-head : (b : List ℕ) → bookHeadOk b ≡ true → BookHead b
 unfolding bookHeadOk bookLong
 book-head b h =
     let k = simp (and-iff, leb-iff, eqb-iff) at h in
-    record { counts = omega arith; mask-in = search; long = omega arith }
+    record { sizes = omega arith; mask-in = search; long = omega arith }

@@ -34,4 +34,4 @@ part-given b x at goals e p g =
 pub part-fits : (b : List ℕ) (x at : ℕ) → consultFault b x 0 ≡ 0 → at ≡ 16 + 4 * (x * bookGoals b + 0) → at < 65536
 part-fits b x at e p =
     let f = fine b x 0 e in
-    omega (arith, row-fits b x e, f .head .long, mul-le-mul (f .head .counts .states-most) (f .head .counts .goals-most))
+    omega (arith, row-fits b x e, f .head .long, mul-le-mul (f .head .sizes .states-most) (f .head .sizes .goals-most))

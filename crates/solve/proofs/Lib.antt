@@ -1,4 +1,5 @@
 -- Laws that the proofs of the solver share.
+pub mod Searching
 pub mod ReachTurns
 pub mod ReachSteps
 pub mod RoundsSets

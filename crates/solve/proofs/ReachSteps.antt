@@ -8,7 +8,7 @@ use Prim.Native.Nat.{ℕ, zero, suc, _+_, _≤_, _<_}
 use native.Mathlib.Numerals.{add-one}
 use native.Mathlib.Omega.{arith}
 use lib.Dec.{ltb}
-use lib.ListN.{length, getD, take, replicate, getD-replicate}
+use lib.ListN.{length, getD, take, replicate, length-replicate, getD-replicate}
 use borrow.Author.Tests.{lt-ltb, le-ltb, not-true}
 use Rattle.statements.specs.Sets.{pick, numbers, first, iterate, isIn, filter}
 use Rattle.statements.specs.Plants.{Plant, inGoal, moveInto, can}
@@ -23,39 +23,53 @@ use Rattle.sets.proofs.First.{first-range, first-holds, first-least}
 use Rattle.sets.proofs.Iterate.{iterate-still, sifted-length}
 use Rattle.kept.proofs.Moves.{Sub, available-end, into-available, into-ends, can-move}
 use Rattle.kept.proofs.Reach.{steps-sifted, steps-later}
-use Rattle.solve.specs.Table.{below}
+use Rattle.solve.specs.Given.{below}
 use Rattle.solve.specs.Reached.{within, before, stepOf, reached, reachedBy, Column, Marks}
 use Rattle.solve.specs.Reaching.{without, Swept, Open, opened, nextMove, stepMove}
 
 -- the move found first, in the goal and out of it
 module _ (p : Plant) (mask i : ℕ) (member : List ℕ) (x : ℕ) where
-  pub opened-yes : inGoal p i x ≡ true → opened p mask i member x ≡ moveInto p mask (below member 1 (p .states)) x
+  opened-yes : inGoal p i x ≡ true → opened p mask i member x ≡ moveInto p mask (below member 1 (p .states)) x
   unfolding opened
   opened-yes h = rw h
 
-  pub opened-no : inGoal p i x ≡ false → opened p mask i member x ≡ p .moves
+  opened-no : inGoal p i x ≡ false → opened p mask i member x ≡ p .moves
   unfolding opened
   opened-no h = rw h
 
--- the move that a step looks for, at step 0 and later
-module _ (p : Plant) (mask i : ℕ) (member waits : List ℕ) (x : ℕ) where
-  pub first-move : (steps : ℕ) → steps ≡ 0 → opened p mask i member x ≡ stepMove p mask i member waits steps x
+-- the move that a step looks for: at step 0 in the goal and out of it, and later
+module _ (p : Plant) (mask i : ℕ) (member waits : List ℕ) (steps x : ℕ) {r : ℕ} where
+  pub step-first : steps ≡ 0 → inGoal p i x ≡ true → r ≡ moveInto p mask (below member 1 (p .states)) x
+      → r ≡ stepMove p mask i member waits steps x
   unfolding stepMove
-  first-move steps e = rw e
+  step-first e h is = rw e (is ∙ sym (opened-yes p mask i member x h))
 
-  pub later-move : (steps : ℕ) → (steps ≡ 0 → ⊥)
-      → moveInto p mask (below waits steps (p .states)) x ≡ stepMove p mask i member waits steps x
+  pub step-none : steps ≡ 0 → inGoal p i x ≡ false → r ≡ p .moves → r ≡ stepMove p mask i member waits steps x
+  unfolding stepMove
+  step-none e h is = rw e (is ∙ sym (opened-no p mask i member x h))
+
+  pub step-later : (steps ≡ 0 → ⊥) → r ≡ moveInto p mask (below waits steps (p .states)) x
+      → r ≡ stepMove p mask i member waits steps x
   unfolding stepMove nextMove
-  later-move zero d = absurd (d refl)
-  later-move (suc n) d = refl
+  step-later d is = is ∙ later steps d
+    where
+      later : (n : ℕ) → (n ≡ 0 → ⊥) → moveInto p mask (below waits n (p .states)) x
+          ≡ stepMove p mask i member waits n x
+      later zero d = absurd (d refl)
+      later (suc n) d = refl
 
 -- it depends on no more of the waits than what was reached before
-pub same-move : (p : Plant) (mask i : ℕ) (member waits waits' : List ℕ) (steps x : ℕ)
+same-move : (p : Plant) (mask i : ℕ) (member waits waits' : List ℕ) (steps x : ℕ)
     → below waits' steps (p .states) ≡ below waits steps (p .states)
     → stepMove p mask i member waits' steps x ≡ stepMove p mask i member waits steps x
 unfolding stepMove nextMove
 same-move p mask i member waits waits' zero x e = refl
 same-move p mask i member waits waits' (suc n) x e = ap (λ (ys : List ℕ). moveInto p mask ys x) e
+
+pub step-same : (p : Plant) (mask i : ℕ) (member waits waits' : List ℕ) (steps x : ℕ) {r : ℕ}
+    → below waits' steps (p .states) ≡ below waits steps (p .states)
+    → r ≡ stepMove p mask i member waits' steps x → r ≡ stepMove p mask i member waits steps x
+step-same p mask i member waits waits' steps x e is = is ∙ same-move p mask i member waits waits' steps x e
 
 -- the first number at which a test holds, where it holds at j
 module _ (test : ℕ → Bool) (j : ℕ) (h : test j ≡ true) where
@@ -150,13 +164,16 @@ step-pick true false u u' v s old new = sym (new refl refl)
 step-pick false true u u' v s old new = absurd (not-both (s refl) refl)
 step-pick false false u u' v s old new = refl
 
--- the loop of steps: how many are done, and how many states were left before the last one
+-- the loop of steps: how many are done, and how many states were left before the last one; the arrays have 1,024 places
 pub record Going (p : Plant) (mask : ℕ) (all : List ℕ) (i steps before : ℕ)
     (waits listed rest : List ℕ) (count : ℕ) : Type 0 where
   pub stepped : Stepped p mask all i steps waits listed rest count
   pub at-first : steps ≡ 0 → before ≡ suc count
   pub before-is : (n : ℕ) → steps ≡ suc n → before ≡ length (without (λ x. isIn x (fewer p mask all i n)) all)
   pub few : before + steps ≤ length all + 1
+  pub waits-long : length waits ≡ 1024
+  pub listed-long : length listed ≡ 1024
+  pub rest-long : length rest ≡ 1024
 
 -- of a state reached, the same number
 pick-same : (b : Bool) (u v : ℕ) → (b ≡ true → u ≡ v) → pick b u lostMark ≡ pick b v lostMark
@@ -475,19 +492,21 @@ module _ (p : Plant) (mask : ℕ) (all : List ℕ) (i : ℕ) where
       same x m = first-same (λ k. isIn x (within p mask all i k)) n (suc n) (length all) m (omega arith) l
 
   -- where the loop begins
-  pub going-start : {waits listed rest : List ℕ} → p .states ≤ 1024 → waits ≡ replicate 1024 lostMark
-      → listed ≡ replicate 1024 lostMark → take (length all) rest ≡ all
-      → Going p mask all i 0 (length all + 1) waits listed rest (length all)
-  going-start {waits} {listed} {rest} s ew el e =
+  pub going-start : {rest : List ℕ} → p .states ≤ 1024 → length rest ≡ 1024 → take (length all) rest ≡ all
+      → Going p mask all i 0 (length all + 1) (replicate 1024 lostMark) (replicate 1024 lostMark) rest (length all)
+  going-start s l e =
       record {
         stepped = record {
-          arrays = start waits listed s ew el;
+          arrays = start (replicate 1024 lostMark) (replicate 1024 lostMark) s refl refl;
           rest-is = e ∙ sym start-rest;
           count-is = ap length (sym start-rest);
         };
         at-first = λ _. add-one (length all);
         before-is = λ n q. absurd (omega arith);
         few = omega arith;
+        waits-long = length-replicate 1024 lostMark;
+        listed-long = length-replicate 1024 lostMark;
+        rest-long = l;
       }
 
   -- a step reached nothing new
@@ -501,29 +520,35 @@ module _ (p : Plant) (mask : ℕ) (all : List ℕ) (i : ℕ) where
       let f = g .few in
       ended n _ _ (same-left n (omega (arith, r .count-is))) (omega arith) (r .arrays)
 
-  -- no more are left than the set has
-  pub going-count : {steps before count : ℕ} {waits listed rest : List ℕ}
-      → Going p mask all i steps before waits listed rest count → count ≤ length all
-  unfolding without
-  going-count {steps} g =
-      omega (arith, g .stepped .count-is, filter-length (λ x. not (isIn x (fewer p mask all i steps))) all)
-
   module _ (inside : Sifted (numbers (p .states) 0) all) (small : p .states ≤ 1024)
       {steps before count : ℕ} {waits listed rest : List ℕ}
       (g : Going p mask all i steps before waits listed rest count) where
-    -- a step fits its type, the states left are open, and a step that reaches something goes on
+    -- a step fits its type, and the states left are open
     pub going-steps : steps ≤ 1025
     going-steps = omega (arith, g .few, few-states inside)
 
     pub going-open : Open (take count rest) (p .states) steps waits
     going-open = open-rest inside steps count waits listed rest (omega (arith, going-steps)) (g .stepped)
 
+    -- there is room for every state, and for those left
+    pub going-room : (p .states ≤ length waits) × (p .states ≤ length listed) × (count ≤ length rest)
+    unfolding without
+    going-room =
+        let left = filter-length (λ x. not (isIn x (fewer p mask all i steps))) all in
+        let few = few-states inside in (
+          omega (arith, g .waits-long),
+          omega (arith, g .listed-long),
+          omega (arith, g .stepped .count-is, g .rest-long),
+        )
+
+    -- a step that reaches something goes on
     pub going-again : {none : ℕ} {member waits' listed' rest' : List ℕ} {left' : ℕ} → none ≡ p .moves
         → Marks all member → count < before
+        → length waits' ≡ length waits → length listed' ≡ length listed → length rest' ≡ length rest
         → let found = stepMove p mask i member waits steps in
         Swept (take count rest) found none steps waits listed waits' listed' rest' left'
         → Going p mask all i (steps + 1) count waits' listed' rest' left'
-    going-again {none} {member} {waits'} {listed'} {rest'} {left'} e k h w =
+    going-again {none} {member} {waits'} {listed'} {rest'} {left'} e k h lw ll lr w =
         let fits : steps ≤ lostMark = omega (arith, going-steps) in
         let f = g .few in
         record {
@@ -533,4 +558,7 @@ module _ (p : Plant) (mask : ℕ) (all : List ℕ) (i : ℕ) where
           at-first = λ q. absurd (omega arith);
           before-is = λ n q. let m : steps ≡ n = omega arith in rw m at (g .stepped .count-is);
           few = omega arith;
+          waits-long = lw ∙ g .waits-long;
+          listed-long = ll ∙ g .listed-long;
+          rest-long = lr ∙ g .rest-long;
         }

@@ -4,14 +4,27 @@ use mathlib.Core.Logic.{⊎-elim}
 use mathlib.Core.Bool.{Bool, true, false, _&&_, _||_, not}
 use mathlib.Core.List.{List}
 use Prim.Native.Nat.{ℕ, _*_, _≤_}
-use lib.Dec.{ltb, leb}
-use lib.ListN.{length, replicate, length-replicate}
 use native.Mathlib.Nat.{le-refl}
-use borrow.Author.Tests.{eq-eqb, ne-eqb, le-leb, lt-leb, ltb-true, ltb-false}
-use Rattle.statements.specs.Plants.{plantOf, plantFault}
+use native.Mathlib.Omega.{arith}
+use lib.Dec.{eqb, ltb, leb}
+use lib.ListN.{length, take, replicate, length-replicate}
+use borrow.Author.Tests.{eqb-true, le-leb, lt-leb, ltb-true, ltb-false}
+use Rattle.statements.specs.Sets.{numbers, over}
+use Rattle.statements.specs.Plants.{Plant, word, plantOf, plantFault}
 use Rattle.statements.specs.Kept.{keptWithin}
-use Rattle.sets.proofs.Tests.{decided}
-use Rattle.solve.specs.Rows.{solvable, flagged, writtenRows, solvedCount, solvedRows}
+use Rattle.sets.proofs.Tests.{decided, and-left}
+use Rattle.sets.proofs.Members.{Sifted}
+use Rattle.kept.proofs.Kept.{kept-sifted}
+use Rattle.decoding.proofs.Faults.{PlantOk}
+use Rattle.arrays.specs.Lists.{flagList}
+use Rattle.tables.specs.Table.{loadable, loadedTable}
+use Rattle.tables.proofs.Loading.{table-loaded}
+use Rattle.solve.specs.Given.{Given}
+use Rattle.solve.specs.Rows.{Columns, keptFrom, solvable, flagged, writtenRows, solvedCount, solvedRows}
+use Rattle.solve.specs.Rounds.{Rest}
+use Rattle.solve.proofs.RoundsSets.{set-length, flags-done}
+use Rattle.solve.proofs.RoundsKept.{begun}
+use Rattle.solve.proofs.RoundsRows.{rows-done}
 
 -- one order fails where the other holds
 leb-not : (a b : ℕ) → leb a b ≡ not (ltb b a)
@@ -41,26 +54,85 @@ module _ (s : List ℕ) (mask : ℕ) (start entries : List ℕ) where
   unfolding solvedCount solvedRows
   solved e = (rw e, rw e)
 
-module _ (s start entries : List ℕ) where
-  -- a plant that is refused
-  pub fault-unsolvable : (plantFault s ≡ 0 → ⊥) → solvable s start entries ≡ false
-  unfolding solvable
-  fault-unsolvable d = rw (ne-eqb (plantFault s) 0 d)
+-- a test that does not hold
+and-not : (a : Bool) → a && false ≡ false
+and-not true = refl
+and-not false = refl
 
-  -- of a plant that is accepted, by the tests that there is room
-  pub room-solvable : (states goals : ℕ) → plantFault s ≡ 0 → states ≡ plantOf s .states → goals ≡ plantOf s .goals
-      → solvable s start entries ≡ not (ltb (length start) states || ltb (length entries) (2 * (states * goals)))
-  unfolding solvable
-  room-solvable states goals e es eg =
-      rw (
-        eq-eqb (plantFault s) 0 e,
-        ← es,
-        ← eg,
-        leb-not states (length start),
-        leb-not (2 * (states * goals)) (length entries),
-      )
-      (neither (ltb (length start) states) (ltb (length entries) (2 * (states * goals))))
+module _ (s start entries : List ℕ) (states goals : ℕ) (es : states ≡ plantOf s .states) (eg : goals ≡ plantOf s .goals)
+  where
+    -- whether the solver can work, by the tests that a slice is too short
+    room-solvable : solvable s start entries
+        ≡ eqb (plantFault s) 0 && not (ltb (length start) states || ltb (length entries) (2 * (states * goals)))
+    unfolding solvable
+    room-solvable =
+        rw (← es, ← eg, leb-not states (length start), leb-not (2 * (states * goals)) (length entries))
+        (ap (λ (b : Bool). eqb (plantFault s) 0 && b)
+        (neither (ltb (length start) states) (ltb (length entries) (2 * (states * goals)))))
+
+    -- one is
+    pub short-unsolvable : ltb (length start) states || ltb (length entries) (2 * (states * goals)) ≡ true
+        → solvable s start entries ≡ false
+    short-unsolvable e =
+        room-solvable ∙ ap (λ (b : Bool). eqb (plantFault s) 0 && not b) e ∙ and-not (eqb (plantFault s) 0)
+
+    -- none is: it can work where the table can be loaded
+    pub load-solvable : ltb (length start) states || ltb (length entries) (2 * (states * goals)) ≡ false
+        → (table : List ℕ) → 25601 ≤ length table → solvable s start entries ≡ loadable s table
+    unfolding loadable
+    load-solvable e table long =
+        room-solvable ∙ ap (λ (b : Bool). eqb (plantFault s) 0 && not b) e
+        ∙ ap (λ (b : Bool). eqb (plantFault s) 0 && b) (sym (le-leb 25601 (length table) long))
+
+-- the table is loaded
+module _ (s : List ℕ) (old : List ℕ) (h : loadable s old ≡ true) where
+  pub loaded-accepted : plantFault s ≡ 0
+  unfolding loadable
+  loaded-accepted = eqb-true (plantFault s) 0 (and-left (eqb (plantFault s) 0) (leb 25601 (length old)) h)
+
+  pub loaded-given : (mask : ℕ) {table : List ℕ} {none : ℕ} → table ≡ loadedTable s mask old → none ≡ word 1 s
+      → Given s mask table none
+  unfolding plantOf
+  loaded-given mask e n =
+      record { accepted = loaded-accepted; table-is = rw e (table-loaded s mask old h); none-is = n }
 
 -- an array that is filled has room
 pub filled : (n v : ℕ) → n ≤ length (replicate n v)
 filled n v = rw length-replicate (le-refl n)
+
+-- the rounds begin with the flagged states, listed at the front of an array
+pub record Begun (p : Plant) (mask : ℕ) (start all : List ℕ) (count : ℕ) : Type 0 where
+  pub fits : count ≤ length all
+  pub set : Sifted (numbers (p .states) 0) (take count all)
+  pub same : keptFrom p mask (take count all) ≡ keptWithin p mask (flagged start)
+
+pub flags-begun : (p : Plant) (mask : ℕ) (start : List ℕ) (states : ℕ) (old : List ℕ) {all : List ℕ} {count : ℕ}
+    → states ≡ p .states → p .states ≤ 1024 → states ≤ length start → 1024 ≤ length old
+    → count ≡ length (flagList start states old) → all ≡ over (flagList start states old) old
+    → Begun p mask start all count
+flags-begun p mask start states old es small a b ec en =
+    let list = flags-done start states old _ _ a (omega arith) (omega arith) ec en in
+    let set = begun p mask (flagged start) states _ es (list .1) in
+    record { fits = list .0; set = set .0; same = set .1 }
+
+-- the rounds are done: what the solver answers
+module _ (s : List ℕ) (mask : ℕ) (start all : List ℕ) (count : ℕ) (b : Begun (plantOf s) mask start all count)
+    (ok : PlantOk (plantOf s)) {r : ℕ} (is : r ≡ length (keptFrom (plantOf s) mask (take count all))) where
+  pub done-few : r ≤ 1024
+  done-few =
+      let most = ok .sizes .states-most in
+      let test = flagged start in
+      let few = set-length (plantOf s) mask (keptWithin (plantOf s) mask test) (kept-sifted (plantOf s) mask test) most in
+      omega (arith, is ∙ ap length (b .same))
+
+  pub done-solved : (states goals : ℕ) (old : List ℕ) {new : List ℕ}
+      → states ≡ plantOf s .states → goals ≡ plantOf s .goals → solvable s start old ≡ true
+      → 2 * (states * goals) ≤ length old
+      → Columns (plantOf s) mask (keptFrom (plantOf s) mask (take count all)) (plantOf s .goals) new
+      → Rest (2 * (states * goals)) old new
+      → (r ≡ solvedCount s mask start old) × (new ≡ solvedRows s mask start old)
+  done-solved states goals old es eg can room columns rest =
+      let answer = solved s mask start old can in
+      let rows = rows-done (plantOf s) mask (flagged start) states goals (take count all) old _
+      (ok .sizes .goals-least) es eg (b .same) columns rest room in
+      (is ∙ ap length (b .same) ∙ answer .0, rows ∙ answer .1)

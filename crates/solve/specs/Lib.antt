@@ -1,5 +1,5 @@
 -- What the solver's arrays stand for.
-pub mod Table
+pub mod Given
 pub mod Reached
 pub mod Reaching
 pub mod Rows

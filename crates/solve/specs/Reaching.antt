@@ -2,12 +2,12 @@
 use mathlib.Core.Path.{_≡_}
 use mathlib.Core.Bool.{Bool, true, _&&_, not}
 use mathlib.Core.List.{List}
-use Prim.Native.Nat.{ℕ, zero, suc, _+_, _≤_, _<_}
+use Prim.Native.Nat.{ℕ, zero, suc, _≤_, _<_}
 use lib.Dec.{ltb}
-use lib.ListN.{length, getD, take, set}
+use lib.ListN.{length, getD, take}
 use Rattle.statements.specs.Sets.{pick, isIn, filter}
 use Rattle.statements.specs.Plants.{Plant, inGoal, moveInto}
-use Rattle.solve.specs.Table.{below}
+use Rattle.solve.specs.Given.{below}
 
 -- the states left after a test
 unfoldable pub without : (ℕ → Bool) → List ℕ → List ℕ
@@ -17,15 +17,7 @@ without test xs = filter (λ x. not (test x)) xs
 pub record Written (todo : List ℕ) (test : ℕ → Bool) (value : ℕ → ℕ) (old new : List ℕ) : Type 0 where
   pub at : (x : ℕ) → getD new x 0 ≡ pick (isIn x todo && test x) (value x) (getD old x 0)
 
--- a state for which a move was found gets the step and the move; one without goes to the rest
-pub record Placed (found none state steps left : ℕ)
-    (waits listed rest waits' listed' rest' : List ℕ) (left' : ℕ) : Type 0 where
-  pub wait-is : waits' ≡ pick (ltb found none) (set waits state steps) waits
-  pub move-is : listed' ≡ pick (ltb found none) (set listed state found) listed
-  pub rest-is : rest' ≡ pick (ltb found none) rest (set rest left state)
-  pub left-is : left' ≡ pick (ltb found none) left (left + 1)
-
--- all states of a list are so placed: the rest starts with those for which no move was found
+-- a state of a list for which a move was found gets the step and the move; the others are left, in the rest
 pub record Swept (todo : List ℕ) (found : ℕ → ℕ) (none steps : ℕ)
     (waits listed waits' listed' rest' : List ℕ) (left' : ℕ) : Type 0 where
   pub wait-is : Written todo (λ x. ltb (found x) none) (λ _. steps) waits waits'

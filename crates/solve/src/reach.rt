@@ -1,5 +1,5 @@
 // The reach to a goal within a set of states: which states can be forced to it, in how many steps, by which move.
-use crate::table::search;
+use crate::search::search;
 use arrays::copy;
 use arrays::store;
 use format::plant::in_goal;
@@ -7,12 +7,12 @@ ghost use mathlib.Core.Path.{_≡_};
 ghost use Prim.Native.Nat.{_+_, _*_, _<_, _≤_};
 ghost use lib.ListN.{length, replicate, take};
 ghost use Rattle.statements.specs.Sets.{numbers};
-ghost use Rattle.statements.specs.Plants.{plantOf, plantFault};
+ghost use Rattle.statements.specs.Plants.{plantOf};
 ghost use Rattle.statements.specs.Books.{lostMark};
 ghost use Rattle.sets.proofs.Members.{Sifted};
-ghost use Rattle.solve.specs.Table.{Table};
+ghost use Rattle.solve.specs.Given.{Given};
 ghost use Rattle.solve.specs.Reached.{Marks, Column};
-ghost use Rattle.solve.specs.Reaching.{Placed, Swept, Open, stepMove};
+ghost use Rattle.solve.specs.Reaching.{Swept, Open, stepMove};
 ghost use Rattle.solve.specs.Rows.{Columns};
 ghost use Rattle.solve.specs.Rounds.{Rest};
 
@@ -21,10 +21,7 @@ ghost use Rattle.solve.specs.Rounds.{Rest};
 fn next(
     plant: &[u8],
     mask: u32,
-    groups: &[u16],
-    starts: &[u16],
-    moves: &[u16],
-    ends: &[u16],
+    table: &[u16],
     none: u16,
     member: &[u16],
     goal: u32,
@@ -32,77 +29,27 @@ fn next(
     steps: u16,
     state: u16,
 ) -> u16
-    requires accepted { ⌜ plantFault (now plant) ≡ 0 ⌝ }
-    requires table { ⌜ Table (plantOf (now plant)) mask (now groups) (now starts) (now moves) (now ends) ⌝ }
-    requires none_is { ⌜ none ≡ plantOf (now plant) .moves ⌝ }
-    requires room { ⌜ (plantOf (now plant) .states ≤ length (now member)) × (plantOf (now plant) .states ≤ length (now waits)) ⌝ }
+    requires given { ⌜ Given (now plant) mask (now table) none ⌝ }
+    requires room { ⌜ (plantOf (now plant) .states ≤ length (now member))
+        × (plantOf (now plant) .states ≤ length (now waits)) ⌝ }
     requires in_range { ⌜ state < plantOf (now plant) .states ⌝ }
-    ensures { λ r. ⌜ r ≡ stepMove (plantOf (now (plant .entry))) mask goal (now (member .entry)) (now (waits .entry)) steps state ⌝ }
+    ensures { λ r. ⌜ r ≡ stepMove (plantOf (now (plant .entry))) mask goal (now (member .entry))
+        (now (waits .entry)) steps state ⌝ }
 {
     if steps != 0 {
-        return search(
-            plant,
-            mask,
-            groups,
-            starts,
-            moves,
-            ends,
-            none,
-            waits,
-            steps,
-            state,
-        );
+        return search(plant, mask, table, none, waits, steps, state);
     }
     if in_goal(plant, goal, state as u32) {
-        return search(
-            plant,
-            mask,
-            groups,
-            starts,
-            moves,
-            ends,
-            none,
-            member,
-            1,
-            state,
-        );
+        return search(plant, mask, table, none, member, 1, state);
     }
     none
-}
-
-// A state for which a move was found is reached in this step; one without goes to the rest. Returns how many are left.
-fn place(
-    found: u16,
-    none: u16,
-    state: u16,
-    steps: u16,
-    left: usize,
-    waits: &mut [u16],
-    listed: &mut [u16],
-    rest: &mut [u16],
-) -> usize
-    requires room { ⌜ (state < length (now waits)) × (state < length (now listed)) × (left < length (now rest)) ⌝ }
-    ensures { λ r. ⌜ Placed found none state steps left (now (waits .entry)) (now (listed .entry)) (now (rest .entry)) (now (waits .exit)) (now (listed .exit)) (now (rest .exit)) r ⌝ }
-{
-    if found < none {
-        let x = state as usize;
-        waits[x] = steps;
-        listed[x] = found;
-        left
-    } else {
-        rest[left] = state;
-        left + 1
-    }
 }
 
 // One step: the states of the rest for which a move is found are reached; the others stay the rest.
 fn sweep(
     plant: &[u8],
     mask: u32,
-    groups: &[u16],
-    starts: &[u16],
-    moves: &[u16],
-    ends: &[u16],
+    table: &[u16],
     none: u16,
     member: &[u16],
     goal: u32,
@@ -112,95 +59,39 @@ fn sweep(
     listed: &mut [u16],
     rest: &mut [u16],
 ) -> usize
-    requires accepted { ⌜ plantFault (now plant) ≡ 0 ⌝ }
-    requires table { ⌜ Table (plantOf (now plant)) mask (now groups) (now starts) (now moves) (now ends) ⌝ }
-    requires none_is { ⌜ none ≡ plantOf (now plant) .moves ⌝ }
+    requires given { ⌜ Given (now plant) mask (now table) none ⌝ }
     requires todo { ⌜ Open (take count (now rest)) (plantOf (now plant) .states) steps (now waits) ⌝ }
-    requires room { ⌜ (plantOf (now plant) .states ≤ length (now member)) × (plantOf (now plant) .states ≤ length (now waits)) × (plantOf (now plant) .states ≤ length (now listed)) × (count ≤ length (now rest)) ⌝ }
-    ensures { λ r. ⌜ Swept (take count (now (rest .entry))) (stepMove (plantOf (now (plant .entry))) mask goal (now (member .entry)) (now (waits .entry)) steps) none steps (now (waits .entry)) (now (listed .entry)) (now (waits .exit)) (now (listed .exit)) (now (rest .exit)) r ⌝ }
+    requires room { ⌜ (plantOf (now plant) .states ≤ length (now member))
+        × (plantOf (now plant) .states ≤ length (now waits))
+        × (plantOf (now plant) .states ≤ length (now listed)) × (count ≤ length (now rest)) ⌝ }
+    ensures { λ r. ⌜ Swept (take count (now (rest .entry)))
+        (stepMove (plantOf (now (plant .entry))) mask goal (now (member .entry)) (now (waits .entry)) steps)
+        none steps (now (waits .entry)) (now (listed .entry))
+        (now (waits .exit)) (now (listed .exit)) (now (rest .exit)) r ⌝ }
 {
     let mut k = 0;
     let mut left = 0;
     while k < count {
         let state = rest[k];
-        let found = next(
-            plant,
-            mask,
-            groups,
-            starts,
-            moves,
-            ends,
-            none,
-            member,
-            goal,
-            waits,
-            steps,
-            state,
-        );
-        left = place(found, none, state, steps, left, waits, listed, rest);
+        let found = next(plant, mask, table, none, member, goal, waits, steps, state);
+        if found < none {
+            let x = state as usize;
+            waits[x] = steps;
+            listed[x] = found;
+        } else {
+            rest[left] = state;
+            left += 1;
+        }
         k += 1;
     }
     left
 }
 
-// The whole reach, over arrays in which nothing is reached yet: steps until one reaches no further state.
-fn reach(
-    plant: &[u8],
-    mask: u32,
-    groups: &[u16],
-    starts: &[u16],
-    moves: &[u16],
-    ends: &[u16],
-    none: u16,
-    all: &[u16],
-    member: &[u16],
-    goal: u32,
-    waits: &mut [u16],
-    listed: &mut [u16],
-    rest: &mut [u16],
-)
-    requires accepted { ⌜ plantFault (now plant) ≡ 0 ⌝ }
-    requires table { ⌜ Table (plantOf (now plant)) mask (now groups) (now starts) (now moves) (now ends) ⌝ }
-    requires none_is { ⌜ none ≡ plantOf (now plant) .moves ⌝ }
-    requires states { ⌜ Sifted (numbers (plantOf (now plant) .states) 0) (now all) ⌝ }
-    requires marked { ⌜ Marks (now all) (now member) × (length (now member) ≡ 1024) ⌝ }
-    requires none_yet { ⌜ (now waits ≡ replicate 1024 lostMark) × (now listed ≡ replicate 1024 lostMark) ⌝ }
-    requires todo { ⌜ (length (now rest) ≡ 1024) × (take (length (now all)) (now rest) ≡ now all) ⌝ }
-    ensures { λ _. ⌜ Column (plantOf (now (plant .entry))) mask (now (all .entry)) goal (now (waits .exit)) (now (listed .exit)) ⌝ }
-{
-    let mut count = all.len();
-    let mut before = count + 1;
-    let mut steps: u16 = 0;
-    while count < before {
-        before = count;
-        count = sweep(
-            plant,
-            mask,
-            groups,
-            starts,
-            moves,
-            ends,
-            none,
-            member,
-            goal,
-            count,
-            steps,
-            waits,
-            listed,
-            rest,
-        );
-        steps += 1;
-    }
-}
-
 // The reach to a goal, written as a column of the entries.
-pub(crate) fn column(
+pub(crate) fn reach(
     plant: &[u8],
     mask: u32,
-    groups: &[u16],
-    starts: &[u16],
-    moves: &[u16],
-    ends: &[u16],
+    table: &[u16],
     none: u16,
     states: usize,
     goals: usize,
@@ -209,34 +100,39 @@ pub(crate) fn column(
     goal: usize,
     entries: &mut [u16],
 )
-    requires accepted { ⌜ plantFault (now plant) ≡ 0 ⌝ }
-    requires table { ⌜ Table (plantOf (now plant)) mask (now groups) (now starts) (now moves) (now ends) ⌝ }
-    requires none_is { ⌜ none ≡ plantOf (now plant) .moves ⌝ }
+    requires given { ⌜ Given (now plant) mask (now table) none ⌝ }
     requires sizes { ⌜ (states ≡ plantOf (now plant) .states) × (goals ≡ plantOf (now plant) .goals) ⌝ }
     requires set { ⌜ Sifted (numbers (plantOf (now plant) .states) 0) (now all) ⌝ }
     requires marked { ⌜ Marks (now all) (now member) × (length (now member) ≡ 1024) ⌝ }
     requires room { ⌜ (goal < goals) × (2 * (states * goals) ≤ length (now entries)) ⌝ }
-    ensures columns { λ _. ⌜ (Columns (plantOf (now (plant .entry))) mask (now (all .entry)) goal (now (entries .entry)) → Columns (plantOf (now (plant .entry))) mask (now (all .entry)) (goal + 1) (now (entries .exit))) ⌝ }
+    ensures columns { λ _. ⌜ (
+        Columns (plantOf (now (plant .entry))) mask (now (all .entry)) goal (now (entries .entry))
+        → Columns (plantOf (now (plant .entry))) mask (now (all .entry)) (goal + 1) (now (entries .exit))) ⌝ }
     ensures rest_stays { λ _. ⌜ Rest (2 * (states * goals)) (now (entries .entry)) (now (entries .exit)) ⌝ }
 {
     let mut waits = [65535u16; 1024];
     let mut listed = [65535u16; 1024];
     let mut rest = [0u16; 1024];
     copy(all, &mut rest);
-    reach(
-        plant,
-        mask,
-        groups,
-        starts,
-        moves,
-        ends,
-        none,
-        all,
-        member,
-        goal as u32,
-        &mut waits,
-        &mut listed,
-        &mut rest,
-    );
+    let mut count = all.len();
+    let mut before = count + 1;
+    let mut steps: u16 = 0;
+    while count < before {
+        before = count;
+        count = sweep(
+            plant,
+            mask,
+            table,
+            none,
+            member,
+            goal as u32,
+            count,
+            steps,
+            &mut waits,
+            &mut listed,
+            &mut rest,
+        );
+        steps += 1;
+    }
     store(&waits, &listed, states, goals, goal, entries);
 }

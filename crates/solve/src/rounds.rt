@@ -1,51 +1,44 @@
 // Rounds: each works out the reach to every goal from the same set, and then cuts the states from which one fails.
-use crate::reach::column;
+use crate::reach::reach;
 use arrays::cut;
 use arrays::mark;
 ghost use mathlib.Core.Path.{_≡_};
 ghost use Prim.Native.Nat.{_*_, _≤_};
 ghost use lib.ListN.{length, take};
 ghost use Rattle.statements.specs.Sets.{numbers};
-ghost use Rattle.statements.specs.Plants.{plantOf, plantFault};
+ghost use Rattle.statements.specs.Plants.{plantOf};
 ghost use Rattle.sets.proofs.Members.{Sifted};
-ghost use Rattle.solve.specs.Table.{Table};
+ghost use Rattle.solve.specs.Given.{Given};
 ghost use Rattle.solve.specs.Rows.{Columns, keptFrom};
 ghost use Rattle.solve.specs.Rounds.{Rest};
 
-// One round: a column of entries for each goal.
+// One round: the reach to each goal from the same set.
 pub(crate) fn round(
     plant: &[u8],
     mask: u32,
-    groups: &[u16],
-    starts: &[u16],
-    moves: &[u16],
-    ends: &[u16],
+    table: &[u16],
     none: u16,
     states: usize,
     goals: usize,
     all: &[u16],
     entries: &mut [u16],
 )
-    requires accepted { ⌜ plantFault (now plant) ≡ 0 ⌝ }
-    requires table { ⌜ Table (plantOf (now plant)) mask (now groups) (now starts) (now moves) (now ends) ⌝ }
-    requires none_is { ⌜ none ≡ plantOf (now plant) .moves ⌝ }
+    requires given { ⌜ Given (now plant) mask (now table) none ⌝ }
     requires sizes { ⌜ (states ≡ plantOf (now plant) .states) × (goals ≡ plantOf (now plant) .goals) ⌝ }
     requires set { ⌜ Sifted (numbers (plantOf (now plant) .states) 0) (now all) ⌝ }
     requires room { ⌜ 2 * (states * goals) ≤ length (now entries) ⌝ }
-    ensures columns { λ _. ⌜ Columns (plantOf (now (plant .entry))) mask (now (all .entry)) (plantOf (now (plant .entry)) .goals) (now (entries .exit)) ⌝ }
+    ensures columns { λ _. ⌜ Columns (plantOf (now (plant .entry))) mask (now (all .entry))
+        (plantOf (now (plant .entry)) .goals) (now (entries .exit)) ⌝ }
     ensures rest_stays { λ _. ⌜ Rest (2 * (states * goals)) (now (entries .entry)) (now (entries .exit)) ⌝ }
 {
     let mut member = [65535u16; 1024];
     mark(all, &mut member);
     let mut goal = 0;
     while goal < goals {
-        column(
+        reach(
             plant,
             mask,
-            groups,
-            starts,
-            moves,
-            ends,
+            table,
             none,
             states,
             goals,
@@ -62,10 +55,7 @@ pub(crate) fn round(
 pub(crate) fn settle(
     plant: &[u8],
     mask: u32,
-    groups: &[u16],
-    starts: &[u16],
-    moves: &[u16],
-    ends: &[u16],
+    table: &[u16],
     none: u16,
     states: usize,
     goals: usize,
@@ -73,14 +63,15 @@ pub(crate) fn settle(
     count: usize,
     entries: &mut [u16],
 ) -> usize
-    requires accepted { ⌜ plantFault (now plant) ≡ 0 ⌝ }
-    requires table { ⌜ Table (plantOf (now plant)) mask (now groups) (now starts) (now moves) (now ends) ⌝ }
-    requires none_is { ⌜ none ≡ plantOf (now plant) .moves ⌝ }
+    requires given { ⌜ Given (now plant) mask (now table) none ⌝ }
     requires sizes { ⌜ (states ≡ plantOf (now plant) .states) × (goals ≡ plantOf (now plant) .goals) ⌝ }
-    requires set { ⌜ (count ≤ length (now all)) × Sifted (numbers (plantOf (now plant) .states) 0) (take count (now all)) ⌝ }
+    requires set { ⌜ (count ≤ length (now all))
+        × Sifted (numbers (plantOf (now plant) .states) 0) (take count (now all)) ⌝ }
     requires room { ⌜ 2 * (states * goals) ≤ length (now entries) ⌝ }
     ensures kept { λ r. ⌜ r ≡ length (keptFrom (plantOf (now (plant .entry))) mask (take count (now (all .entry)))) ⌝ }
-    ensures columns { λ _. ⌜ Columns (plantOf (now (plant .entry))) mask (keptFrom (plantOf (now (plant .entry))) mask (take count (now (all .entry)))) (plantOf (now (plant .entry)) .goals) (now (entries .exit)) ⌝ }
+    ensures columns { λ _. ⌜ Columns (plantOf (now (plant .entry))) mask
+        (keptFrom (plantOf (now (plant .entry))) mask (take count (now (all .entry))))
+        (plantOf (now (plant .entry)) .goals) (now (entries .exit)) ⌝ }
     ensures rest_stays { λ _. ⌜ Rest (2 * (states * goals)) (now (entries .entry)) (now (entries .exit)) ⌝ }
 {
     let mut kept = count;
@@ -88,10 +79,7 @@ pub(crate) fn settle(
         round(
             plant,
             mask,
-            groups,
-            starts,
-            moves,
-            ends,
+            table,
             none,
             states,
             goals,

@@ -1,256 +1,188 @@
--- The table while it is filled, as the code holds it: how it begins, what each arrow does to it, and that it is whole
--- once its last places are stored. Assumes nothing.
-use mathlib.Core.Path.{_≡_, refl, sym, _∙_, subst, fun-ext}
-use mathlib.Core.Logic.{_⊎_, inl, ⊎-elim}
-use mathlib.Core.Bool.{true, false}
-use mathlib.Core.List.{List, [], _∷_}
-use Prim.Native.Nat.{ℕ, suc, _+_, _-_, _*_, _≤_, _<_}
+-- The loop that fills the table, over lists: the places and the groups of the states before x; and how long the table
+-- is at most. Assumes nothing.
+use mathlib.Core.Path.{_≡_, refl, sym, ap, ap₂, _∙_}
+use mathlib.Core.List.{List, [], _∷_, _++_}
+use Prim.Native.Nat.{ℕ, suc, _+_, _-_, _≤_, _<_}
+use native.Mathlib.Nat.{zero-add}
 use native.Mathlib.Numerals.{add-one}
 use native.Mathlib.Omega.{arith}
-use native.Mathlib.Decide.{decLt}
-use lib.Dec.{ltb, leb}
-use lib.ListN.{length, getD, set, length-set}
-use lib.Seq.{getD-set-same}
-use borrow.Author.Tests.{ltb-true, leb-true}
-use Rattle.statements.specs.Sets.{bit}
-use Rattle.statements.specs.Plants.{Arrow, Plant, arrowsOk, rank, ends}
-use Rattle.sets.proofs.Tests.{same-number, and-left, and-right}
-use Rattle.tables.specs.Table.{Table}
-use Rattle.tables.specs.Filling.{upTo, Within, Groups, Filling}
-use Rattle.tables.proofs.UpTo.{upTo-low, upTo-high, upTo-set}
-use Rattle.tables.proofs.Groups.{group-below, groups-skip, groups-open, groups-add, groups-whole}
+use lib.ListN.{length, set, length-append}
+use lib.Seq.{sets, length-sets}
+use borrow.Author.Tests.{leb-true}
+use Rattle.statements.specs.Sets.{joined, over}
+use Rattle.statements.specs.Plants.{word, Plant, plantOf, headOk, plantFault, ends}
+use Rattle.sets.proofs.Tests.{and-iff}
+use Rattle.sets.proofs.Joined.{joined-length}
+use Rattle.decoding.proofs.Faults.{plant-tests, plant-ok}
+use Rattle.tables.specs.Table.{groupsOf, placeOf, tableOf}
+use Rattle.tables.specs.Filling.{arrowsLeft, Begins}
+use Rattle.tables.proofs.Order.{arrows-length}
+use Rattle.sets.proofs.Joined.{joined-split, joined-more}
+use Rattle.tables.proofs.Grouping.{table-few}
+use Rattle.tables.proofs.Stores.{sets-append, sets-before, sets-over}
 
--- what is known of the next arrow, and of those after it
-pub record Next (p : Plant) (least : ℕ) (a : Arrow) (rest : List Arrow) : Type 0 where
-  pub from-below : a .from < p .states
-  pub move-below : a .move < p .moves
-  pub to-below : a .to < p .states
-  pub higher : least ≤ 65536 * (65536 * a .from) + (65536 * a .move + a .to)
-  pub ascend : arrowsOk (p .states) (p .moves) (suc (rank a)) rest ≡ true
+-- the number of states is the first of a plant's numbers
+pub plant-states : (s : List ℕ) → plantOf s .states ≡ word 0 s
+unfolding plantOf
+plant-states s = refl
 
--- an arrow list in order gives it
-pub next-of : (p : Plant) {least : ℕ} {a : Arrow} {rest : List Arrow}
-    → arrowsOk (p .states) (p .moves) least (a ∷ rest) ≡ true → Next p least a rest
-unfolding arrowsOk rank
-next-of p {least} {a} {rest} h =
-    let s = p .states in
-    let after-from = and-right (ltb (a .from) s) _ h in
-    let after-move = and-right (ltb (a .move) (p .moves)) _ after-from in
-    let after-to = and-right (ltb (a .to) s) _ after-move in
+module _ (p : Plant) (mask : ℕ) where
+  -- the places of the first n states
+  unfoldable pub placesOf : ℕ → List ℕ
+  placesOf n = joined n 0 (λ x. placeOf p mask x ∷ [])
+
+  pub places-length : (n : ℕ) → length (placesOf n) ≡ n
+  unfolding placesOf
+  places-length n = joined-length (λ x. placeOf p mask x ∷ []) 1 (λ _. refl) n 0 ∙ omega arith
+
+  places-more : (n : ℕ) → placesOf (suc n) ≡ placesOf n ++ (placeOf p mask n ∷ [])
+  unfolding placesOf
+  places-more n = rw zero-add at (joined-more (λ x. placeOf p mask x ∷ []) n 0)
+
+  pub groups-more : (n : ℕ) → joined (suc n) 0 (groupsOf p mask) ≡ joined n 0 (groupsOf p mask) ++ groupsOf p mask n
+  groups-more n = rw zero-add at (joined-more (groupsOf p mask) n 0)
+
+  -- each state's groups begin where those of the state before it end
+  pub place-next : (x : ℕ) → placeOf p mask (suc x) ≡ placeOf p mask x + length (groupsOf p mask x)
+  unfolding placeOf
+  place-next x =
+      omega (
+        arith,
+        ap length (groups-more x),
+        length-append (joined x 0 (groupsOf p mask)) (groupsOf p mask x),
+      )
+
+  -- and none begin past the last place
+  pub place-most : (x : ℕ) → x ≤ p .states → placeOf p mask x ≤ placeOf p mask (p .states)
+  unfolding placeOf
+  place-most x h =
+      let all : x + (p .states - x) ≡ p .states = omega arith in
+      omega (
+        arith,
+        ap length (rw all at (joined-split (groupsOf p mask) x (p .states - x) 0)),
+        length-append (joined x 0 (groupsOf p mask)) (joined (p .states - x) (0 + x) (groupsOf p mask)),
+      )
+
+-- the table of an accepted plant takes at most 25601 numbers
+pub table-most : (s : List ℕ) (mask : ℕ) → plantFault s ≡ 0 → placeOf (plantOf s) mask (plantOf s .states) ≤ 25601
+unfolding placeOf headOk
+table-most s mask ok =
+    let head = simp and-iff at (plant-tests s ok .0) in
+    let arrows : word 3 s ≤ 8192 = omega (arith, leb-true) in
+    let states = plant-ok s ok .sizes .states-most in
+    omega (arith, table-few (plantOf s) mask, arrows-length s)
+
+-- the places and the groups of the states before x are written
+pub record Filled (s : List ℕ) (mask x k at : ℕ) (old table : List ℕ) : Type 0 where
+  pub accepted : plantFault s ≡ 0
+  pub room : 25601 ≤ length old
+  pub within : x ≤ plantOf s .states
+  pub begins : Begins s x k
+  pub place : at ≡ placeOf (plantOf s) mask x
+  pub written : table ≡ sets (sets old 0 (placesOf (plantOf s) mask x)) (suc (plantOf s .states))
+      (joined x 0 (groupsOf (plantOf s) mask))
+
+-- at first none is
+pub fill-start : (s : List ℕ) (mask : ℕ) (old : List ℕ) → plantFault s ≡ 0 → 25601 ≤ length old
+    → Filled s mask 0 0 (plantOf s .states + 1) old old
+unfolding joined placesOf placeOf ends arrowsLeft
+fill-start s mask old accepted room =
+    let ok = plant-ok s accepted in
     record {
-      from-below = ltb-true (a .from) s (and-left (ltb (a .from) s) _ h);
-      move-below = ltb-true (a .move) (p .moves) (and-left (ltb (a .move) (p .moves)) _ after-from);
-      to-below = ltb-true (a .to) s (and-left (ltb (a .to) s) _ after-move);
-      higher = leb-true least (rank a) (and-left (leb least (rank a)) _ after-to);
-      ascend = and-right (leb least (rank a)) _ after-to;
-    }
-
--- before the first arrow the table is empty
-pub filling-start : (p : Plant) (mask : ℕ) (groups starts moves places : List ℕ)
-    → arrowsOk (p .states) (p .moves) 0 (p .arrows) ≡ true → length (p .arrows) ≤ 8192 → p .states ≤ 1024
-    → p .moves ≤ 32 → Filling p mask 0 (p .arrows) 0 0 0 groups starts moves places
-unfolding ends
-filling-start p mask groups starts moves places ascending few small small-moves =
-    let first = upTo groups 0 0 in
-    let start = upTo starts 0 0 in
-    let none : (x : ℕ) → first x ≡ 0 = λ x. upTo-high groups 0 0 x (omega arith) in
-    let begins : (g : ℕ) → start g ≡ 0 = λ g. upTo-high starts 0 0 g (omega arith) in
-    let empty : (x g : ℕ) → Within first x g → ⊥ = λ x g w. omega (arith, none (suc x), w .to) in
-    record {
-      in-groups = record {
-        rising = λ x. omega (arith, none x);
-        few = λ x. omega (arith, none x);
-        starts-rise = λ g. omega (arith, begins g);
-        starts-few = λ g. omega (arith, begins g);
-        is-available = λ x g w. absurd (empty x g w);
-        ends-are = λ x g w. absurd (empty x g w);
-        moves-rise = λ x g h w v l. absurd (empty x g w);
-        before = λ x g w. absurd (empty x g w);
-        complete = λ x u b. inl refl;
+      accepted = accepted;
+      room = room;
+      within = omega arith;
+      begins = record {
+        rising = record {
+          in-order = ok .arrows-ok;
+          states-most = ok .sizes .states-most;
+          moves-most = ok .sizes .moves-most;
+        };
+        all = λ y u h. refl;
       };
-      ascend = ascending;
-      last = λ x e. absurd (omega arith);
-      states-few = omega arith;
-      groups-few = omega arith;
-      ends-few = omega arith;
-      states-most = small;
-      moves-most = small-moves;
+      place = omega arith;
+      written = refl;
     }
 
-module _ {p : Plant} {mask least : ℕ} {a : Arrow} {rest : List Arrow} {f n m : ℕ} {groups starts moves places : List ℕ}
-    (t : Filling p mask least (a ∷ rest) f n m groups starts moves places) where
-  -- an arrow out of service changes nothing
-  pub filling-skip : bit (a .move) mask ≡ false → Filling p mask (suc (rank a)) rest f n m groups starts moves places
-  unfolding rank
-  filling-skip out =
-      let next = next-of p (t .ascend) in
-      record {
-        in-groups = groups-skip (t .in-groups) out (next .higher);
-        ascend = next .ascend;
-        last = t .last;
-        states-few = t .states-few;
-        groups-few = t .groups-few;
-        ends-few = omega (arith, t .ends-few);
-        states-most = t .states-most;
-        moves-most = t .moves-most;
-      }
+module _ {s : List ℕ} {mask x k at : ℕ} {old table : List ℕ} (t : Filled s mask x k at old table) where
+  -- the list is as long as it was, and has room for the next state
+  pub fill-length : length table ≡ length old
+  fill-length =
+      let p = plantOf s in
+      ap length (t .written)
+      ∙ length-sets (sets old 0 (placesOf p mask x)) (suc (p .states)) (joined x 0 (groupsOf p mask))
+      ∙ length-sets old 0 (placesOf p mask x)
 
-  -- the last group is the last state's
-  last-group : (x : ℕ) → suc x ≡ f → Within (upTo groups f n) x (n - 1)
-  last-group x e =
-      let held = t .last x e in
-      let past = upTo-high groups f n (suc x) (omega arith) in
-      record { from = omega arith; to = omega arith }
+  pub fill-most : (at ≤ 25601) × (plantOf s .states < at)
+  unfolding placeOf
+  fill-most =
+      omega (arith, t .place, table-most s mask (t .accepted), place-most (plantOf s) mask x (t .within))
 
-  -- no state past the arrow's has a group, the arrow's is a state, and where it has a group there is a last one
-  pub filling-states : f ≤ a .from + 1
-  filling-states =
-      let next = next-of p (t .ascend) in
-      elim (decLt 0 f) [
-        | yes some ↦
-            let l = last-group (f - 1) (omega arith) in
-            omega (arith, next, t .states-most, t .moves-most, t .in-groups .before (f - 1) (n - 1) l)
-        | no none ↦ omega arith
-      ]
+  pub fill-room : x < plantOf s .states → at + length (groupsOf (plantOf s) mask x) ≤ length table
+  fill-room h =
+      let p = plantOf s in
+      omega (
+        arith,
+        fill-length,
+        t .room,
+        t .place,
+        place-next p mask x,
+        place-most p mask (suc x) h,
+        table-most s mask (t .accepted),
+      )
 
-  pub filling-from : a .from < 1024
-  filling-from = omega (arith, next-of p (t .ascend) .from-below, t .states-most)
+  -- with one place more
+  fill-place : set table x at ≡ sets (sets old 0 (placesOf (plantOf s) mask (suc x))) (suc (plantOf s .states))
+      (joined x 0 (groupsOf (plantOf s) mask))
+  fill-place =
+      let p = plantOf s in
+      let n = suc (p .states) in
+      let places = placesOf p mask x in
+      let groups = joined x 0 (groupsOf p mask) in
+      let here : 0 + length places ≡ x = rw (places-length p mask x, zero-add) in
+      let one = sets-append old 0 places (placeOf p mask x ∷ []) in
+      let more = rw here at one in
+      rw (t .written, t .place, places-more p mask x)
+      (sets-before (sets old 0 places) n groups x (placeOf p mask x) (omega (arith, t .within))
+      ∙ ap (λ (l : List ℕ). sets l n groups) more)
 
-  pub filling-some : a .from < f → 0 < n
-  filling-some h = omega (arith, t .last (f - 1) (omega arith))
-
-  -- an arrow of the last group adds an end to it
-  pub filling-same : bit (a .move) mask ≡ true → a .from < f → getD moves (n - 1) 0 ≡ a .move → m < length places
-      → Filling p mask (suc (rank a)) rest f n (m + 1) groups starts moves (set places m (a .to))
-  unfolding rank
-  filling-same serves held same room =
-      let next = next-of p (t .ascend) in
-      let some = filling-some held in
-      let states = filling-states in
-      let l = last-group (a .from) (omega arith) in
-      let start′ = upTo starts n (suc m) in
-      rw (add-one m)
+  -- and the state's groups
+  pub fill-state : x < plantOf s .states → (k′ at′ : ℕ) (table′ : List ℕ) → Begins s (suc x) k′
+      → at′ ≡ at + length (groupsOf (plantOf s) mask x)
+      → table′ ≡ sets (set table x at) at (groupsOf (plantOf s) mask x) → Filled s mask (x + 1) k′ at′ old table′
+  unfolding placeOf
+  fill-state h k′ at′ table′ b size w =
+      let p = plantOf s in
+      let n = suc (p .states) in
+      let groups = joined x 0 (groupsOf p mask) in
+      let there : at ≡ n + length groups = t .place in
+      rw add-one
       (record {
-        in-groups = groups-add (t .in-groups) (n - 1) (omega arith) l same start′
-            (λ g h. upTo-low starts n (suc m) g (omega arith) ∙ sym (upTo-low starts n m g (omega arith)))
-            (λ g h. upTo-high starts n m g (omega arith)) (λ g h. upTo-high starts n (suc m) g (omega arith)) room
-            (suc (rank a)) (omega arith);
-        ascend = next .ascend;
-        last = t .last;
-        states-few = t .states-few;
-        groups-few = omega (arith, t .groups-few);
-        ends-few = omega (arith, t .ends-few);
-        states-most = t .states-most;
-        moves-most = t .moves-most;
+        accepted = t .accepted;
+        room = t .room;
+        within = h;
+        begins = b;
+        place = size ∙ omega (arith, t .place, place-next p mask x);
+        written =
+            w
+            ∙ ap₂ (λ (l : List ℕ) (i : ℕ). sets l i (groupsOf p mask x)) fill-place there
+            ∙ sets-append (sets old 0 (placesOf p mask (suc x))) n groups (groupsOf p mask x)
+            ∙ ap (λ (l : List ℕ). sets (sets old 0 (placesOf p mask (suc x))) n l) (sym (groups-more p mask x));
       })
 
-  -- where the arrow's state has no group yet, or the last group has another move, its groups have lower moves
-  lower-moves : (f ≤ a .from) ⊎ (getD moves (n - 1) 0 ≡ a .move → ⊥) → (g : ℕ) → Within (upTo groups f n) (a .from) g
-      → getD moves g 0 < a .move
-  lower-moves why g w =
-      let next = next-of p (t .ascend) in
-      let states = filling-states in
-      let below = group-below (t .in-groups) (a .from) g w in
-      let key = t .in-groups .before (a .from) g w in
-      let small = t .states-most in
-      let small-moves = t .moves-most in
-      elim (decLt (a .from) f) [
-        | yes held ↦
-            let l = last-group (a .from) (omega arith) in
-            let last-key = t .in-groups .before (a .from) (n - 1) l in
-            ⊎-elim
-            (λ e. absurd (omega (arith, e)))
-            (λ d.
-            elim (decLt g (n - 1)) [
-              | yes early ↦ omega (arith, t .in-groups .moves-rise (a .from) g (n - 1) w l early)
-              | no late ↦
-                  let e : g ≡ n - 1 = omega arith in
-                  let d′ = rw (← e) at d in
-                  ⊎-elim (λ q. absurd (d′ q)) (λ q. omega arith) (same-number (getD moves g 0) (a .move))
-            ])
-            why
-        | no none ↦
-            let here = upTo-high groups f n (a .from) (omega arith) in
-            absurd (omega (arith, w .from))
-      ]
-
-  module _ (groups′ : List ℕ) (opened : (x : ℕ) → upTo groups′ (a .from + 1) n x ≡ upTo groups f n x)
-      (why : (f ≤ a .from) ⊎ (getD moves (n - 1) 0 ≡ a .move → ⊥)) (serves : bit (a .move) mask ≡ true)
-      (starts-room : n < length starts) (moves-room : n < length moves) (places-room : m < length places) where
-    -- the first groups of states are stored up to the arrow's
-    states-opened : Groups p mask least (a ∷ rest) (upTo groups′ (a .from + 1) n) (upTo starts n m) moves places n m
-    states-opened =
-        subst (λ first. Groups p mask least (a ∷ rest) first (upTo starts n m) moves places n m)
-        (sym (fun-ext opened)) (t .in-groups)
-
-    -- a group is opened
-    group-opened : Groups p mask (suc (rank a)) (a ∷ rest) (upTo groups′ (a .from + 1) (suc n)) (upTo starts n m)
-        (set moves n (a .move)) places (suc n) m
-    unfolding rank
-    group-opened =
-        let next = next-of p (t .ascend) in
-        groups-open states-opened (upTo groups′ (a .from + 1) (suc n))
-        (λ x h. upTo-low groups′ (a .from + 1) (suc n) x (omega arith)
-        ∙ sym (upTo-low groups′ (a .from + 1) n x (omega arith)))
-        (λ x h. upTo-high groups′ (a .from + 1) n x (omega arith))
-        (λ x h. upTo-high groups′ (a .from + 1) (suc n) x (omega arith))
-        (λ g h. upTo-high starts n m g h) serves
-        (λ g w. lower-moves why g (rw (fun-ext opened) at w)) moves-room (suc (rank a)) (omega arith) (omega arith)
-
-    -- its start is stored
-    start-stored : Groups p mask (suc (rank a)) (a ∷ rest) (upTo groups′ (a .from + 1) (suc n))
-        (upTo (set starts n m) (n + 1) m) (set moves n (a .move)) places (suc n) m
-    start-stored =
-        subst
-        (λ start. Groups p mask (suc (rank a)) (a ∷ rest) (upTo groups′ (a .from + 1) (suc n)) start
-        (set moves n (a .move)) places (suc n) m)
-        (sym (fun-ext (λ g. upTo-set starts n m g starts-room))) group-opened
-
-    -- it is the arrow's
-    is-newest : Within (upTo groups′ (a .from + 1) (suc n)) (a .from) n
-    is-newest =
-        let here = upTo-low groups′ (a .from + 1) (suc n) (a .from) (omega arith) in
-        let before = upTo-low groups′ (a .from + 1) n (a .from) (omega arith) in
-        let past = upTo-high groups′ (a .from + 1) (suc n) (suc (a .from)) (omega arith) in
-        record { from = omega (arith, states-opened .few (a .from)); to = omega arith }
-
-    -- its end is added
-    end-added : Groups p mask (suc (rank a)) rest (upTo groups′ (a .from + 1) (suc n))
-        (upTo (set starts n m) (n + 1) (suc m)) (set moves n (a .move)) (set places m (a .to)) (suc n) (suc m)
-    end-added =
-        groups-add start-stored n (omega arith) is-newest (getD-set-same moves n (a .move) 0 moves-room)
-        (upTo (set starts n m) (n + 1) (suc m))
-        (λ g h. upTo-low (set starts n m) (n + 1) (suc m) g (omega arith)
-        ∙ sym (upTo-low (set starts n m) (n + 1) m g (omega arith)))
-        (λ g h. upTo-high (set starts n m) (n + 1) m g (omega arith))
-        (λ g h. upTo-high (set starts n m) (n + 1) (suc m) g (omega arith)) places-room (suc (rank a)) (omega arith)
-
-    -- an arrow that is no end of the last group opens one
-    pub filling-fresh : Filling p mask (suc (rank a)) rest (a .from + 1) (n + 1) (m + 1) groups′ (set starts n m)
-        (set moves n (a .move)) (set places m (a .to))
-    filling-fresh =
-        let next = next-of p (t .ascend) in
-        record {
-          in-groups = rw (add-one n, add-one m) (rw (add-one n) at end-added);
-          ascend = next .ascend;
-          last = λ x e.
-              let there : x ≡ a .from = omega arith in
-              rw (there, add-one n) (omega (arith, is-newest .from));
-          states-few = omega (arith, next .from-below);
-          groups-few = omega (arith, t .groups-few);
-          ends-few = omega (arith, t .ends-few);
-          states-most = t .states-most;
-          moves-most = t .moves-most;
-        }
-
--- once no arrow is left and the last numbers are stored the table is whole
-pub filling-whole : {p : Plant} {mask least : ℕ} {f n m : ℕ} {groups starts moves places : List ℕ}
-    → Filling p mask least [] f n m groups starts moves places → (groups′ : List ℕ)
-    → ((x : ℕ) → upTo groups′ (p .states + 1) n x ≡ upTo groups f n x)
-    → p .states < length groups′ → n < length starts → n ≤ length moves → m ≤ length places
-    → Table p mask groups′ (set starts n m) moves places
-filling-whole {p} {n = n} {m = m} {starts = starts} t groups′ opened groups-room starts-room moves-room places-room =
-    groups-whole (t .in-groups) groups′ (set starts n m)
-    (λ x h. sym (upTo-low groups′ (p .states + 1) n x (omega arith)) ∙ opened x)
-    (λ g h. sym (upTo-low (set starts n m) (n + 1) m g (omega arith)) ∙ upTo-set starts n m g starts-room)
-    groups-room (rw length-set starts-room) moves-room places-room
+  -- past the last state one place more makes the table whole
+  pub fill-end : plantOf s .states ≤ x → set table (plantOf s .states) at ≡ over (tableOf (plantOf s) mask) old
+  unfolding tableOf placesOf placeOf
+  fill-end h =
+      let p = plantOf s in
+      let n = suc (p .states) in
+      let places = placesOf p mask n in
+      let groups = joined (p .states) 0 (groupsOf p mask) in
+      let last : x ≡ p .states = omega (arith, t .within) in
+      let long : 0 + length places ≡ n = rw (places-length p mask n, zero-add) in
+      ap (λ (i : ℕ). set table i at) (sym last)
+      ∙ fill-place
+      ∙ ap (λ (i : ℕ). sets (sets old 0 (placesOf p mask (suc i))) n (joined i 0 (groupsOf p mask))) last
+      ∙ rw long at (sets-append old 0 places groups)
+      ∙ sets-over (places ++ groups) old
+      (omega (arith, t .room, table-most s mask (t .accepted), length-append places groups, places-length p mask n))

@@ -1,3 +1,3 @@
--- What the table's arrays stand for.
+-- The table's numbers, and the arrows from which it is filled.
 pub mod Table
 pub mod Filling

@@ -1,121 +1,95 @@
-// The table is filled from a plant's arrows, one after another in their stored order.
+// The table is filled from a plant's arrows, state by state and move by move, in their stored order.
 use format::arrows::read;
 use format::word::bit_at;
 use format::word::number;
 ghost use mathlib.Core.Path.{_≡_};
-ghost use Prim.Native.Nat.{ℕ, _+_, _<_, _≤_};
+ghost use mathlib.Core.List.{_∷_};
+ghost use Prim.Native.Nat.{suc, _+_, _≤_};
 ghost use lib.ListN.{length};
-ghost use Rattle.statements.specs.Plants.{plantOf, plantFault};
-ghost use Rattle.tables.specs.Table.{Table};
-ghost use Rattle.tables.specs.Filling.{upTo, Added};
+ghost use lib.Seq.{sets};
+ghost use Rattle.statements.specs.Sets.{over};
+ghost use Rattle.statements.specs.Plants.{plantOf, plantFault, endsIn};
+ghost use Rattle.tables.specs.Table.{groupsOf, tableOf};
+ghost use Rattle.tables.specs.Filling.{arrowsLeft, Rising, Begins};
 
-// How far the table is filled: states with a first group, groups, and ends.
-pub(crate) struct Filled {
-    pub(crate) states: usize,
-    pub(crate) groups: usize,
-    pub(crate) ends: usize,
+// What is past the groups of a state: the next arrow, and the next place.
+pub(crate) struct Past {
+    pub(crate) arrow: u16,
+    pub(crate) place: usize,
 }
 
-// The states from one to another, the last included, begin with the same group.
-fn open(groups: &mut [u16], first: usize, last: usize, group: usize)
-    requires range { ⌜ (first ≤ last + 1) × (last < 1025) ⌝ }
-    requires room { ⌜ 1025 ≤ length (now groups) ⌝ }
-    requires fits { ⌜ group < 65536 ⌝ }
-    ensures { λ _. ⌜ ((x : ℕ) → upTo (now (groups .exit)) (last + 1) group x
-        ≡ upTo (now (groups .entry)) first group x) ⌝ }
+// Writes the group of a move in a state, whose arrows begin with arrow k, at a place; returns the arrow past them.
+fn group(plant: &[u8], k: u16, state: u16, action: u16, at: usize, table: &mut [u16]) -> u16
+    requires rising { ⌜ Rising (plantOf (now plant)) state action (arrowsLeft (now plant) k) ⌝ }
+    requires room { ⌜ at + (2 + length (endsIn (arrowsLeft (now plant) k) state action)) ≤ length (now table) ⌝ }
+    ensures next { λ r. ⌜ r ≡ k + length (endsIn (arrowsLeft (now (plant .entry)) k) state action) ⌝ }
+    ensures written { λ _. ⌜ now (table .exit) ≡ sets (now (table .entry)) at
+        (action ∷ (length (endsIn (arrowsLeft (now (plant .entry)) k) state action)
+        ∷ endsIn (arrowsLeft (now (plant .entry)) k) state action)) ⌝ }
 {
-    let mut x = first;
-    while x <= last {
-        groups[x] = group as u16;
-        x += 1;
-    }
-}
-
-// One more arrow of a move in service.
-fn add(
-    from: u16,
-    action: u16,
-    to: u16,
-    filled: Filled,
-    groups: &mut [u16],
-    starts: &mut [u16],
-    moves: &mut [u16],
-    ends: &mut [u16],
-) -> Filled
-    requires range { ⌜ (from < 1024) × (filled .states ≤ from + 1) × (from < filled .states → 0 < filled .groups) ⌝ }
-    requires few { ⌜ (filled .groups ≤ filled .ends) × (filled .ends < 8192) ⌝ }
-    requires room { ⌜ (1025 ≤ length (now groups)) × (8193 ≤ length (now starts)) × (8192 ≤ length (now moves))
-        × (8192 ≤ length (now ends)) ⌝ }
-    ensures { λ r. ⌜ Added from action to (filled .states) (filled .groups) (filled .ends)
-        (r .states) (r .groups) (r .ends)
-        (now (groups .entry)) (now (starts .entry)) (now (moves .entry)) (now (ends .entry))
-        (now (groups .exit)) (now (starts .exit)) (now (moves .exit)) (now (ends .exit)) ⌝ }
-{
-    let states = filled.states;
-    let group = filled.groups;
-    let end = filled.ends;
-    let state = from as usize;
-    if state < states {
-        if moves[group - 1] == action {
-            ends[end] = to;
-            return Filled {
-                states: states,
-                groups: group,
-                ends: end + 1,
-            };
-        }
-    }
-    open(groups, states, state, group);
-    moves[group] = action;
-    starts[group] = end as u16;
-    ends[end] = to;
-    Filled {
-        states: state + 1,
-        groups: group + 1,
-        ends: end + 1,
-    }
-}
-
-// Fills the table from the plant's arrows, in their stored order.
-pub(crate) fn fill(
-    plant: &[u8],
-    mask: u32,
-    groups: &mut [u16],
-    starts: &mut [u16],
-    moves: &mut [u16],
-    ends: &mut [u16],
-)
-    requires accepted { ⌜ plantFault (now plant) ≡ 0 ⌝ }
-    requires room { ⌜ (1025 ≤ length (now groups)) × (8193 ≤ length (now starts)) × (8192 ≤ length (now moves))
-        × (8192 ≤ length (now ends)) ⌝ }
-    ensures { λ _. ⌜ Table (plantOf (now (plant .entry))) mask (now (groups .exit)) (now (starts .exit))
-        (now (moves .exit)) (now (ends .exit)) ⌝ }
-{
-    let states = number(plant, 0) as usize;
     let count = number(plant, 3);
-    let mut k: u16 = 0;
-    let mut filled = Filled {
-        states: 0,
-        groups: 0,
-        ends: 0,
-    };
+    let mut i = k;
+    while i < count {
+        let arrow = read(plant, i);
+        let same = (arrow.from == state) & (arrow.action == action);
+        if !same {
+            break;
+        }
+        table[at + 2 + (i - k) as usize] = arrow.to;
+        i += 1;
+    }
+    table[at] = action;
+    table[at + 1] = i - k;
+    i
+}
+
+// Writes the groups of a state, whose arrows begin with the one given, from a place on.
+fn groups(plant: &[u8], mask: u32, state: u16, first: u16, start: usize, table: &mut [u16]) -> Past
+    requires begins { ⌜ Begins (now plant) state first ⌝ }
+    requires room { ⌜ start + length (groupsOf (plantOf (now plant)) mask state) ≤ length (now table) ⌝ }
+    ensures next { λ r. ⌜ Begins (now (plant .entry)) (suc state) (r .arrow) ⌝ }
+    ensures size { λ r. ⌜ r .place ≡ start + length (groupsOf (plantOf (now (plant .entry))) mask state) ⌝ }
+    ensures written { λ _. ⌜ now (table .exit)
+        ≡ sets (now (table .entry)) start (groupsOf (plantOf (now (plant .entry))) mask state) ⌝ }
+{
+    let count = number(plant, 3);
+    let mut k = first;
+    let mut at = start;
     while k < count {
         let arrow = read(plant, k);
-        k += 1;
+        if arrow.from != state {
+            break;
+        }
         if bit_at(mask, arrow.action as u32) {
-            filled = add(
-                arrow.from,
-                arrow.action,
-                arrow.to,
-                filled,
-                groups,
-                starts,
-                moves,
-                ends,
-            );
+            let next = group(plant, k, state, arrow.action, at, table);
+            at += 2 + (next - k) as usize;
+            k = next;
+        } else {
+            k += 1;
         }
     }
-    open(groups, filled.states, states, filled.groups);
-    let last = filled.groups;
-    starts[last] = filled.ends as u16;
+    Past {
+        arrow: k,
+        place: at,
+    }
+}
+
+// Fills the table: a place for each state before its groups, and one past the last.
+pub(crate) fn fill(plant: &[u8], mask: u32, table: &mut [u16])
+    requires accepted { ⌜ plantFault (now plant) ≡ 0 ⌝ }
+    requires room { ⌜ 25601 ≤ length (now table) ⌝ }
+    ensures { λ _. ⌜ now (table .exit) ≡ over (tableOf (plantOf (now (plant .entry))) mask) (now (table .entry)) ⌝ }
+{
+    let states = number(plant, 0);
+    let mut state: u16 = 0;
+    let mut arrow: u16 = 0;
+    let mut at = (states as usize) + 1;
+    while state < states {
+        table[state as usize] = at as u16;
+        let past = groups(plant, mask, state, arrow, at, table);
+        arrow = past.arrow;
+        at = past.place;
+        state += 1;
+    }
+    table[states as usize] = at as u16;
 }

@@ -7,13 +7,13 @@ use Rattle.books.proofs.Consulted.{says-refused, says-lost}
 use Rattle.books.proofs.consult_book.Statement.{statement}
 use Rattle.books.proofs.consult_book.Tie as tie
 
-fault-requires : tie.Need-fault-requires
-fault-requires c κs = search needs
+consult-requires : tie.Need-consult-requires
+consult-requires c κs = search needs
 
 returns : tie.Need-returns
 returns c =
     let a = c .before .before .before .args in
-    says-refused (now (a .book)) (a .state) (a .goal) _ (c .before .fault .ensures) (c .if1 .taken)
+    says-refused (now (a .book)) (a .state) (a .goal) _ (c .before .consult .ensures) (c .if1 .taken)
 
 is-lost-requires : tie.Need-is-lost-requires
 is-lost-requires c κs = search needs
@@ -21,7 +21,7 @@ is-lost-requires c κs = search needs
 -- past the first test, the call is accepted
 accepted-call : (c : tie.Else1)
     → let a = c .before .before .before .args in consultFault (now (a .book)) (a .state) (a .goal) ≡ 0
-accepted-call c = sym (c .before .fault .ensures) ∙ c .if1 .left
+accepted-call c = sym (c .before .consult .ensures) ∙ c .if1 .left
 
 returns-2 : tie.Need-returns-2
 returns-2 c =
@@ -38,4 +38,4 @@ returns-3 c = search needs
 pub consult-book-spec : {M : Type 1} → statement M
 consult-book-spec =
     tie.close
-    (tie.spec fault-requires returns is-lost-requires returns-2 advise-requires returns-3)
+    (tie.spec consult-requires returns is-lost-requires returns-2 advise-requires returns-3)

@@ -4,10 +4,10 @@ use denote.Ref.{now}
 use mathlib.Core.Path.{_≡_, sym, _∙_}
 use native.Mathlib.Omega.{arith}
 use lib.ListN.{length}
-use Rattle.statements.specs.Plants.{plantOf}
 use Rattle.statements.specs.Calls.{makeFault}
 use Rattle.decoding.proofs.Faults.{MakeOk, make-ok}
-use Rattle.books.proofs.Made.{states-few, book-fits, make-refused, make-done}
+use Rattle.writing.proofs.Solved.{states-few}
+use Rattle.books.proofs.Made.{make-refused, make-done}
 use Rattle.books.proofs.Traces.{demands}
 use borrow.Author.Needs.{needs}
 use Rattle.books.proofs.make_book.Statement.{statement}
@@ -44,14 +44,7 @@ slice-aggregate-book : tie.Need-slice-aggregate-book
 slice-aggregate-book c = search needs
 
 book-requires : tie.Need-book-requires
-book-requires c κs =
-    let l = c .before .before .before in
-    let e = l .before .before in
-    let a = e .before .before .before .before .args in
-    let few = states-few (now (a .plant)) (ok e .plant) in (
-      ok e .plant,
-      (omega (arith, l .allowed .ensures .1, few), book-fits (plantOf (now (a .plant))) _ (ok e .room-ok)),
-    )
+book-requires c κs = search needs
 
 same-length : tie.Need-same-length
 same-length c = search needs
@@ -62,8 +55,8 @@ returns-2 c =
     let l = k .before .before .before .before in
     let e = l .before .before in
     let a = e .before .before .before .before .args in (
-      make-done (now (a .plant)) (a .mask) (now (a .out)) _ _ (accepted e) (l .allowed .ensures .0)
-          (k .book .ensures .0) (k .book .ensures .1),
+      make-done (now (a .plant)) (a .mask) (now (a .out)) _ _ (accepted e) (omega (arith, l .allowed .ensures .1))
+          (l .allowed .ensures .0) (k .book .ensures .0) (k .book .ensures .1),
       demands,
     )
 

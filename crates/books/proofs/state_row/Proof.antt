@@ -14,8 +14,8 @@ use Rattle.books.proofs.Consulted.{no-row, no-start, empty-row, start-g
 use Rattle.books.proofs.state_row.Statement.{statement}
 use Rattle.books.proofs.state_row.Tie as tie
 
-fault-requires : tie.Need-fault-requires
-fault-requires c κs = search needs
+consult-requires : tie.Need-consult-requires
+consult-requires c κs = search needs
 
 slice-aggregate-result : tie.Need-slice-aggregate-result
 slice-aggregate-result c = search needs
@@ -24,7 +24,7 @@ returns : tie.Need-returns
 returns c =
     let a = c .before .before .before .before .args in
     let refused : consultFault (now (a .book)) (a .state) 0 ≡ 0 → ⊥ =
-    λ z. c .before .if1 .taken (c .before .before .fault .ensures ∙ z)
+    λ z. c .before .if1 .taken (c .before .before .consult .ensures ∙ z)
     in (
       sym (no-row (now (a .book)) (a .state) refused),
       (
@@ -52,7 +52,7 @@ mul-end c = search needs
 given : (c : tie.After-number)
     → let a = c .before .before .before .before .before .args in
     consultFault (now (a .book)) (a .state) 0 ≡ 0
-given c = sym (c .before .before .before .fault .ensures) ∙ c .before .before .if1 .left
+given c = sym (c .before .before .before .consult .ensures) ∙ c .before .before .if1 .left
 
 within : (c : tie.After-number)
     → let a = c .before .before .before .before .before .args in
@@ -94,7 +94,7 @@ pub state-row-spec : {M : Type 1} → statement M
 state-row-spec =
     tie.close
     (tie.spec
-    fault-requires
+    consult-requires
     slice-aggregate-result
     returns
     entry-place-requires

@@ -9,10 +9,10 @@ use lib.ListN.{length}
 use lib.Seq.{length-take-le}
 use lib.Bits.{and-le-l}
 use Rattle.statements.specs.Plants.{plantOf}
-use Rattle.statements.specs.Books.{bookLong}
 use Rattle.statements.specs.Calls.{withdrawFault}
 use Rattle.decoding.proofs.Faults.{WithdrawOk, withdraw-ok}
-use Rattle.books.proofs.Made.{states-few, book-fits, drops-fit, kept-flags, withdraw-refused, withdraw-done}
+use Rattle.writing.proofs.Solved.{states-few, written-fits}
+use Rattle.books.proofs.Made.{withdraw-refused, withdraw-done}
 use Rattle.books.proofs.Traces.{demands}
 use borrow.Author.Needs.{needs}
 use Rattle.books.proofs.withdraw_moves.Statement.{statement}
@@ -43,31 +43,16 @@ ok c =
     withdraw-ok (now (a .plant)) (now (a .book)) (a .mask) (length (now (a .out))) (length (now (a .drops)))
     (accepted c)
 
--- its plant's states are few, and its book buffer has room
+-- its plant's states are few
 few : (c : tie.Else1)
     → plantOf (now (c .before .before .before .before .before .before .args .plant)) .states ≤ 1024
 few c = states-few (now (c .before .before .before .before .before .before .args .plant)) (ok c .plant)
-
-room : (c : tie.Else1)
-    → let a = c .before .before .before .before .before .before .args in
-    let p = plantOf (now (a .plant)) in
-    bookLong (p .states) (p .goals) ≤ length (now (a .out))
-room c = book-fits (plantOf (now (c .before .before .before .before .before .before .args .plant))) _ (ok c .room-ok)
-
-slice-aggregate-allowed : tie.Need-slice-aggregate-allowed
-slice-aggregate-allowed c = search needs
-
-allowed-requires : tie.Need-allowed-requires
-allowed-requires c κs = few (c .before)
 
 slice-aggregate-kept : tie.Need-slice-aggregate-kept
 slice-aggregate-kept c = search needs
 
 kept-requires : tie.Need-kept-requires
-kept-requires c κs =
-    let l = c .before .before in
-    let e = l .before .before in
-    omega (arith, l .allowed .ensures .1, few e, ok e .states)
+kept-requires c κs = few (c .before)
 
 mask-requires : tie.Need-mask-requires
 mask-requires c κs = search needs
@@ -79,11 +64,7 @@ slice-aggregate-book : tie.Need-slice-aggregate-book
 slice-aggregate-book c = search needs
 
 book-requires : tie.Need-book-requires
-book-requires c κs =
-    let t = c .before .before .before .before in
-    let l = t .before .before .before in
-    let e = l .before .before in
-    (ok e .plant, (omega (arith, l .allowed .ensures .1, t .kept .ensures .1, few e), room e))
+book-requires c κs = search needs
 
 cast-dropped : tie.Need-cast-dropped
 cast-dropped c = search needs
@@ -93,8 +74,7 @@ within : (c : tie.After-slice-known3)
     → let k = c .before .before in k .book .result ≤ length (k .book .last .1 .1 .1 .0)
 within c =
     let k = c .before .before in
-    let e = k .before .before .before .before .before .before .before .before .before .before in
-    omega (arith, k .book .ensures .0, k .book .kept .1 .1 .1 .0, room e)
+    omega (arith, k .book .kept .1 .1 .1 .0, written-fits _ _ _ (k .book .ensures .0))
 
 slice-reshare-prefix-dropped : tie.Need-slice-reshare-prefix-dropped
 slice-reshare-prefix-dropped c = within c
@@ -103,11 +83,7 @@ slice-aggregate-dropped : tie.Need-slice-aggregate-dropped
 slice-aggregate-dropped c = sym (length-take-le _ _ (within (c .before)))
 
 dropped-requires : tie.Need-dropped-requires
-dropped-requires c κs =
-    let k = c .before .before .before .before in
-    let e = k .before .before .before .before .before .before .before .before .before .before in
-    let a = e .before .before .before .before .before .before .args in
-    omega (arith, ok e .states, drops-fit (plantOf (now (a .plant))) (length (now (a .drops))) (ok e .drops-ok))
+dropped-requires c κs = search needs
 
 same-length : tie.Need-same-length
 same-length c = search needs
@@ -121,14 +97,11 @@ returns-2 c =
     let k = d .before .before .before .before .before in
     let m = k .before .before .before in
     let t = m .before .before in
-    let l = t .before .before .before in
-    let e = l .before .before in
+    let e = t .before .before in
     let a = e .before .before .before .before .before .before .args in (
       withdraw-done (now (a .plant)) (now (a .book)) (a .mask) (now (a .out)) (now (a .drops)) _ _ _ _ (accepted e)
-          (kept-flags (plantOf (now (a .plant))) (now (a .book)) _ _ (ok e .states) (l .allowed .ensures .0)
-          (t .kept .ensures .0))
-          (m .mask .ensures) (k .book .ensures .0) (k .book .ensures .1)
-          (d .dropped .ensures .0) (d .dropped .ensures .1),
+          (omega (arith, t .kept .ensures .1)) (t .kept .ensures .0) (m .mask .ensures) (k .book .ensures .0)
+          (k .book .ensures .1) (d .dropped .ensures .0) (d .dropped .ensures .1),
       demands,
     )
 
@@ -138,8 +111,6 @@ withdraw-moves-spec =
     (tie.spec
     withdraw-requires
     returns
-    slice-aggregate-allowed
-    allowed-requires
     slice-aggregate-kept
     kept-requires
     mask-requires

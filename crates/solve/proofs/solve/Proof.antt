@@ -1,72 +1,97 @@
--- `solve::solve` meets its contract: where the plant is accepted and there is room, `work` does what is asked, over
--- arrays of the sizes that it wants. Assumes nothing.
-use mathlib.Core.Path.{_≡_, refl, sym, ap, _∙_}
-use mathlib.Core.Bool.{_||_, not}
-use Prim.Native.Nat.{_*_, _≤_}
+-- `solve::solve` meets its contract: where there is room and the table is loaded, the rounds from the flagged states
+-- leave the rows of the kept states. Assumes nothing.
+use mathlib.Core.Path.{_≡_, refl, sym, _∙_}
+use mathlib.Core.Bool.{true}
+use mathlib.Core.List.{List}
+use Prim.Native.Nat.{ℕ, _*_, _≤_}
 use native.Mathlib.Omega.{arith}
 use native.Mathlib.Nat.{mul-le-mul}
 use lib.Dec.{ltb}
-use lib.ListN.{length}
-use borrow.Author.Tests.{ltb-false}
-use denote.Ref.{now}
-use Rattle.statements.specs.Plants.{plantOf, plantFault}
-use Rattle.statements.specs.Kept.{keptWithin}
-use Rattle.sets.proofs.Tests.{or-neither}
-use Rattle.kept.proofs.Kept.{kept-sifted}
-use Rattle.decoding.proofs.Sizes.{Sizes}
-use Rattle.decoding.proofs.Faults.{plant-ok}
-use Rattle.solve.specs.Rows.{solvable, flagged}
-use Rattle.solve.proofs.RoundsSets.{set-length}
-use Rattle.solve.proofs.RoundsSolved.{not-solved, solved, fault-unsolvable, room-solvable, filled}
+use lib.ListN.{length, replicate}
 use borrow.Author.Needs.{needs}
+use borrow.Author.Tests.{ltb-false, not-true, not-false}
+use Rattle.statements.specs.Plants.{plantOf}
+use Rattle.sets.proofs.Tests.{or-neither}
+use Rattle.decoding.proofs.Faults.{PlantOk, plant-ok}
+use Rattle.tables.specs.Table.{loadable}
+use Rattle.solve.specs.Rows.{solvable}
+use Rattle.solve.proofs.RoundsSolved as laws
+use Rattle.solve.proofs.RoundsSolved.{Begun}
 use Rattle.solve.proofs.solve.Statement.{statement}
 use Rattle.solve.proofs.solve.Tie as tie
 
--- past the first test the plant is accepted, and its numbers are in range
-accepted : (c : tie.Else1) → plantFault (now (c .before .before .before .before .before .args .plant)) ≡ 0
-accepted c = sym (c .before .plant-fault .ensures) ∙ c .if1 .left
+-- the function's entry, seen from the test of room, and that test, seen from the test of the table
+abbrev entry : tie.After-number2 → tie.Start
+entry c = c .before .before .before .before .before
 
-sized : (c : tie.Else1)
-    → let p = plantOf (now (c .before .before .before .before .before .args .plant)) in
-    Sizes (p .states) (p .moves) (p .goals)
-sized c = plant-ok (now (c .before .before .before .before .before .args .plant)) (accepted c) .sizes
+abbrev room : tie.After-table2 → tie.Else1
+room c = c .before .before .before
 
-states-are : (c : tie.After-number)
-    → c .number .result ≡ plantOf (now (c .before .before .before .before .before .before .args .plant)) .states
+-- the numbers of states and goals are the plant's
+states-are : (c : tie.After-number2) → c .before .number .result ≡ plantOf (entry c .args .plant .now) .states
 unfolding plantOf
-states-are c = c .number .ensures
+states-are c = c .before .number .ensures
 
-goals-are : (c : tie.After-number2)
-    → c .number2 .result ≡ plantOf (now (c .before .before .before .before .before .before .before .args .plant)) .goals
+goals-are : (c : tie.After-number2) → c .number2 .result ≡ plantOf (entry c .args .plant .now) .goals
 unfolding plantOf
 goals-are c = c .number2 .ensures
 
-entries-most : (c : tie.After-number2) → c .before .number .result * c .number2 .result ≤ 1024 * 8
+entries-most : (c : tie.After-number2) → c .before .number .result * c .number2 .result ≤ 65535 * 65535
 entries-most c =
-    let sizes = sized (c .before .before) in
-    let states : c .before .number .result ≤ 1024 = omega (arith, sizes .states-most, states-are (c .before)) in
-    let goals : c .number2 .result ≤ 8 = omega (arith, sizes .goals-most, goals-are c) in
+    let states : c .before .number .result ≤ 65535 = omega (arith, c .before .number .ok) in
+    let goals : c .number2 .result ≤ 65535 = omega (arith, c .number2 .ok) in
     mul-le-mul states goals
 
--- whether there is room is what the second test asks
-roomy : (c : tie.After-number2)
-    → let s = c .before .before .before .before .before .before .before in
-    solvable (now (s .args .plant)) (now (s .args .start)) (now (s .args .entries))
-    ≡ not (ltb (length (now (s .args .start))) (c .before .number .result)
-    || ltb (length (now (s .args .entries))) (2 * (c .before .number .result * c .number2 .result)))
-roomy c =
-    let s = c .before .before .before .before .before .before .before in
-    room-solvable (now (s .args .plant)) (now (s .args .start)) (now (s .args .entries)) (c .before .number .result)
-    (c .number2 .result) (accepted (c .before .before)) (states-are (c .before)) (goals-are c)
+-- where there is room, the solver can work if the table is loaded
+can-load : (c : tie.After-table2)
+    → let a = entry (room c .before) .args in
+    solvable (a .plant .now) (a .start .now) (a .entries .now) ≡ c .before .load .result
+can-load c =
+    let number = room c .before in
+    let a = entry number .args in
+    laws.load-solvable (a .plant .now) (a .start .now) (a .entries .now) (number .before .number .result)
+    (number .number2 .result) (states-are number) (goals-are number) (room c .if1 .left) (replicate 25601 0)
+    (laws.filled 25601 0)
+    ∙ sym (c .before .load .ensures .0)
 
-plant-fault-requires : tie.Need-plant-fault-requires
-plant-fault-requires c κs = search needs
+-- it is loaded: the plant is accepted
+loaded : (c : tie.Else2) → loadable (entry (room (c .before) .before) .args .plant .now) (replicate 25601 0) ≡ true
+loaded c = sym (c .before .before .load .ensures .0) ∙ not-false _ (c .if2 .left)
 
-returns : tie.Need-returns
-returns c =
-    let s = c .before .before .before .before .before in
-    not-solved (now (s .args .plant)) (s .args .mask) (now (s .args .start)) (now (s .args .entries))
-    (fault-unsolvable _ _ _ (λ e. c .if1 .taken (c .before .plant-fault .ensures ∙ e)))
+accepted : (c : tie.Else2) → PlantOk (plantOf (entry (room (c .before) .before) .args .plant .now))
+accepted c =
+    let plant = entry (room (c .before) .before) .args .plant .now in
+    plant-ok plant (laws.loaded-accepted plant (replicate 25601 0) (loaded c))
+
+-- the slices are long enough
+long : (c : tie.Else1)
+    → let a = entry (c .before) .args in
+    let states = c .before .before .number .result in
+    (states ≤ length (a .start .now)) × (2 * (states * c .before .number2 .result) ≤ length (a .entries .now))
+long c =
+    let a = entry (c .before) .args in
+    let states = c .before .before .number .result in
+    let tests = or-neither (ltb (length (a .start .now)) states)
+    (ltb (length (a .entries .now)) (2 * (states * c .before .number2 .result))) (c .if1 .left) in
+    (ltb-false _ _ (tests .0), ltb-false _ _ (tests .1))
+
+-- the table is loaded, seen from the list of the flagged states, and that list
+abbrev ready : tie.After-flags → tie.Else2
+ready c = c .before .before .before
+
+abbrev list : tie.After-flags → List ℕ
+list c = c .flags .last .1 .1 .0
+
+listed : (c : tie.After-flags)
+    → let a = entry (room (ready c .before) .before) .args in
+    Begun (plantOf (a .plant .now)) (a .mask) (a .start .now) (list c) (c .flags .result)
+listed c =
+    let tests = room (ready c .before) in
+    let number = tests .before in
+    let a = entry number .args in
+    laws.flags-begun (plantOf (a .plant .now)) (a .mask) (a .start .now) (number .before .number .result)
+    (replicate 1024 0) (states-are number) (accepted (ready c) .sizes .states-most) (long tests .0)
+    (laws.filled 1024 0) (c .flags .ensures .0) (c .flags .ensures .1)
 
 number-requires : tie.Need-number-requires
 number-requires c κs = search needs
@@ -80,64 +105,68 @@ number-requires-2 c κs = search needs
 cast-goals : tie.Need-cast-goals
 cast-goals c = search needs
 
-mul-if2 : tie.Need-mul-if2
-mul-if2 c = omega (arith, entries-most c)
+mul-if1 : tie.Need-mul-if1
+mul-if1 c = omega (arith, entries-most c)
 
-mul-if2-2 : tie.Need-mul-if2-2
-mul-if2-2 c = omega (arith, entries-most c)
+mul-if1-2 : tie.Need-mul-if1-2
+mul-if1-2 c = omega (arith, entries-most c)
+
+returns : tie.Need-returns
+returns c =
+    let number = c .before in
+    let a = entry number .args in
+    laws.not-solved (a .plant .now) (a .mask) (a .start .now) (a .entries .now)
+    (laws.short-unsolvable (a .plant .now) (a .start .now) (a .entries .now) (number .before .number .result)
+    (number .number2 .result) (states-are number) (goals-are number) (c .if1 .taken))
+
+slice-aggregate-load : tie.Need-slice-aggregate-load
+slice-aggregate-load c = search needs
+
+load-requires : tie.Need-load-requires
+load-requires c κs = search needs
 
 returns-2 : tie.Need-returns-2
 returns-2 c =
-    let s = c .before .before .before .before .before .before .before .before in
-    not-solved (now (s .args .plant)) (s .args .mask) (now (s .args .start)) (now (s .args .entries))
-    (roomy (c .before) ∙ ap not (c .if2 .taken))
+    let a = entry (room (c .before) .before) .args in
+    laws.not-solved (a .plant .now) (a .mask) (a .start .now) (a .entries .now)
+    (can-load (c .before) ∙ not-true _ (c .if2 .taken))
 
-slice-aggregate-work : tie.Need-slice-aggregate-work
-slice-aggregate-work c = search needs
+number-requires-3 : tie.Need-number-requires-3
+number-requires-3 c κs = search needs
 
-slice-aggregate-work-2 : tie.Need-slice-aggregate-work-2
-slice-aggregate-work-2 c = search needs
+slice-aggregate-flags : tie.Need-slice-aggregate-flags
+slice-aggregate-flags c = search needs
 
-slice-aggregate-work-3 : tie.Need-slice-aggregate-work-3
-slice-aggregate-work-3 c = search needs
+flags-requires : tie.Need-flags-requires
+flags-requires c κs = search needs
 
-slice-aggregate-work-4 : tie.Need-slice-aggregate-work-4
-slice-aggregate-work-4 c = search needs
+slice-aggregate-settle : tie.Need-slice-aggregate-settle
+slice-aggregate-settle c = search needs
 
-slice-aggregate-work-5 : tie.Need-slice-aggregate-work-5
-slice-aggregate-work-5 c = search needs
+slice-aggregate-settle-2 : tie.Need-slice-aggregate-settle-2
+slice-aggregate-settle-2 c = search needs
 
-work-requires : tie.Need-work-requires
-work-requires c κs =
-    let test = c .before .before .before .before .before .before in
-    let number = test .before in
-    let s = number .before .before .before .before .before .before .before in
-    let room = or-neither (ltb (length (now (s .args .start))) (number .before .number .result))
-    (ltb (length (now (s .args .entries))) (2 * (number .before .number .result * number .number2 .result)))
-    (test .if2 .left) in (
-      accepted (number .before .before),
-      (
-        (states-are (number .before), goals-are number),
-        (
-          ltb-false _ _ (room .0),
-          (ltb-false _ _ (room .1), (filled 1025 0, filled 8193 0, filled 8192 0, filled 8192 0, refl)),
-        ),
-      ),
-    )
+settle-requires : tie.Need-settle-requires
+settle-requires c κs =
+    let flags = c .before .before .before .before in
+    let else = ready flags in
+    let tests = room (else .before) in
+    let number = tests .before in
+    let a = entry number .args in
+    let begun = listed flags in
+    let given = laws.loaded-given (a .plant .now) (replicate 25601 0) (loaded else) (a .mask)
+    (else .before .before .load .ensures .1) (flags .before .before .number3 .ensures) in
+    (given, ((states-are number, goals-are number), ((begun .fits, begun .set), long tests .1)))
 
 cast-result : tie.Need-cast-result
 cast-result c =
-    let work = c .before .before .before .before .before .before .before in
-    let number = work .before .before .before .before .before .before .before .before in
-    let s = number .before .before .before .before .before .before .before in
-    let p = plantOf (now (s .args .plant)) in
-    let most = sized (number .before .before) .states-most in
-    let test = flagged (now (s .args .start)) in
+    let settle = c .before .before .before in
+    let flags = settle .before .before .before .before .before in
+    let a = entry (room (ready flags .before) .before) .args in
     omega (
       arith,
-      most,
-      work .work .ensures .0,
-      set-length p (s .args .mask) (keptWithin p (s .args .mask) test) (kept-sifted p (s .args .mask) test) most,
+      laws.done-few (a .plant .now) (a .mask) (a .start .now) (list flags) (flags .flags .result)
+          (listed flags) (accepted (ready flags)) (settle .settle .ensures .0),
     )
 
 same-length : tie.Need-same-length
@@ -145,32 +174,38 @@ same-length c = search needs
 
 returns-3 : tie.Need-returns-3
 returns-3 c =
-    let work = c .before .before .before .before .before .before .before in
-    let test = work .before .before .before .before .before .before .before in
-    let s = test .before .before .before .before .before .before .before .before in
-    let answer = solved (now (s .args .plant)) (s .args .mask) (now (s .args .start)) (now (s .args .entries))
-    (roomy (test .before) ∙ ap not (test .if2 .left)) in
-    (work .work .ensures .0 ∙ answer .0, work .work .ensures .1 ∙ answer .1)
+    let settle = c .before .before .before in
+    let flags = settle .before .before .before .before .before in
+    let else = ready flags in
+    let tests = room (else .before) in
+    let number = tests .before in
+    let a = entry number .args in
+    let ensures = settle .settle .ensures in
+    laws.done-solved (a .plant .now) (a .mask) (a .start .now) (list flags) (flags .flags .result)
+    (listed flags) (accepted else) (ensures .0) (number .before .number .result) (number .number2 .result)
+    (a .entries .now) (states-are number) (goals-are number) (can-load (else .before) ∙ not-false _ (else .if2 .left))
+    (long tests .1) (ensures .1 .0) (ensures .1 .1)
 
 pub solve-spec : {M : Type 1} → statement M
 solve-spec =
     tie.close
     (tie.spec
-    plant-fault-requires
-    returns
     number-requires
     cast-states
     number-requires-2
     cast-goals
-    mul-if2
-    mul-if2-2
+    mul-if1
+    mul-if1-2
+    returns
+    slice-aggregate-load
+    load-requires
     returns-2
-    slice-aggregate-work
-    slice-aggregate-work-2
-    slice-aggregate-work-3
-    slice-aggregate-work-4
-    slice-aggregate-work-5
-    work-requires
+    number-requires-3
+    slice-aggregate-flags
+    flags-requires
+    slice-aggregate-settle
+    slice-aggregate-settle-2
+    settle-requires
     cast-result
     same-length
     returns-3)

@@ -1,12 +1,11 @@
 -- `books::start::allowed` meets its contract. The loop's invariant: the flags of the states passed say which are
 -- allowed. Assumes nothing.
 use denote.Ref.{now}
-use mathlib.Core.Path.{_∙_}
 use Prim.Native.Nat.{_-_}
 use native.Mathlib.Omega.{arith}
 use borrow.Author.Needs.{needs}
 use Rattle.statements.specs.Plants.{plantOf, allowed}
-use Rattle.books.proofs.Started.{FlagsSoFar, flags-start, flags-set, flag-byte}
+use Rattle.books.proofs.Started.{FlagsSoFar, flags-start, flags-more}
 use Rattle.books.proofs.start.allowed.Statement.{statement}
 use Rattle.books.proofs.start.allowed.Tie as tie
 
@@ -50,8 +49,8 @@ loop-less c = omega arith
 
 loop-again : tie.Need-loop-again Inv-loop μ-loop
 loop-again c =
-    flags-set (c .before .before .loop .inv) (c .before .loop-test .taken) _
-    (flag-byte (c .is-allowed .result) ∙ c .is-allowed .ensures)
+    flags-more (c .before .before .loop .inv) (c .before .loop-test .taken) (c .is-allowed .result)
+    (c .is-allowed .ensures)
 
 same-length : tie.Need-same-length Inv-loop μ-loop
 same-length c = c .before .loop .inv .size

@@ -18,17 +18,17 @@ use Rattle.solve.proofs.rounds.settle.Statement.{statement}
 use Rattle.solve.proofs.rounds.settle.Tie as tie
 
 abbrev Inv-loop : tie.InvT-loop
-Inv-loop plant mask _ _ _ _ _ states goals all₀ count entries₀ _ all entries kept =
+Inv-loop plant mask _ _ states goals all₀ count entries₀ _ all entries kept =
     Settling (plantOf plant) mask (take count all₀) all kept
     × Rest (2 * (states * goals)) entries₀ entries
     × (length all ≡ length all₀)
 
 abbrev μ-loop : tie.MeasureT-loop
-μ-loop _ _ _ _ _ _ _ _ _ _ _ _ _ _ _ kept = kept
+μ-loop _ _ _ _ _ _ _ _ _ _ _ _ kept = kept
 
 -- the places of a turn, from the last back to the first
 abbrev entry : tie.At-loop Inv-loop μ-loop → tie.Start Inv-loop μ-loop
-entry c = c .before .before .before .before .before .before .before .before
+entry c = c .before .before .before .before .before
 
 abbrev turn : tie.After-cut Inv-loop μ-loop → tie.At-loop Inv-loop μ-loop
 turn c = c .before .before .before .before .before .before .before .before
@@ -36,11 +36,11 @@ turn c = c .before .before .before .before .before .before .before .before
 sized : (s : tie.Start Inv-loop μ-loop)
     → let p = plantOf (now (s .args .plant)) in
     Sizes (p .states) (p .moves) (p .goals)
-sized s = plant-ok (now (s .args .plant)) (s .pre .0) .sizes
+sized s = plant-ok (now (s .args .plant)) (s .pre .0 .accepted) .sizes
 
 loop-holds : tie.Need-loop-holds Inv-loop μ-loop
 loop-holds c =
-    let set = c .before .before .before .before .before .before .before .pre .1 .1 .1 .1 .0 in
+    let set = c .before .before .before .before .pre .1 .1 .0 in
     (record { fits = set .0; set = set .1; same = refl }, record { long = refl; stays = refl }, refl)
 
 slice-reshare-prefix-round : tie.Need-slice-reshare-prefix-round Inv-loop μ-loop
@@ -54,8 +54,8 @@ round-requires c κs =
     let t = c .before .before in
     let pre = entry t .pre in
     let inv = t .loop .inv in
-    let rows = pre .1 .1 .1 .1 .1 in
-    (pre .0, (pre .1 .0, (pre .1 .1 .0, (pre .1 .1 .1 .0, (inv .0 .set, omega (arith, rows, inv .1 .long))))))
+    let rows = pre .1 .1 .1 in
+    (pre .0, (pre .1 .0, (inv .0 .set, omega (arith, rows, inv .1 .long))))
 
 cut-requires : tie.Need-cut-requires Inv-loop μ-loop
 cut-requires c κs = search needs
@@ -72,10 +72,10 @@ left-is c =
     let p = plantOf (now (s .args .plant)) in
     let l = turn c .loop in
     let round = c .before .before .before .before .before .round in
-    let sizes = s .pre .1 .1 .1 .0 in
+    let sizes = s .pre .1 .0 in
     cut-done p (s .args .mask) (l .all) (l .kept) (l .inv .0 .fits) (l .inv .0 .set) (sized s .states-most) _
     (round .ensures .0) (s .args .states) (s .args .goals) (sizes .0) (sizes .1)
-    (omega (arith, s .pre .1 .1 .1 .1 .1, l .inv .1 .long, round .ensures .1 .long)) (sized s .goals-most) _ _
+    (omega (arith, s .pre .1 .1 .1, l .inv .1 .long, round .ensures .1 .long)) (sized s .goals-most) _ _
     (c .cut .ensures .0) (c .cut .ensures .1)
 
 same-length : tie.Need-same-length Inv-loop μ-loop

@@ -1,0 +1,2 @@
+-- Laws of what calls return.
+pub mod Refusals

@@ -1,0 +1,1 @@
+-- No definitions of its own: the refusals are those of crate statements, specs/Calls.antt.

@@ -1,0 +1,48 @@
+// The search of the table of moves in service, for the lowest move of a state into the states below a limit.
+ghost use mathlib.Core.Path.{_≡_};
+ghost use Prim.Native.Nat.{_<_, _≤_};
+ghost use lib.ListN.{length};
+ghost use Rattle.statements.specs.Plants.{plantOf, moveInto};
+ghost use Rattle.solve.specs.Given.{Given, below};
+
+// The lowest move of a state all of whose ends have a wait below the limit; `none` if there is none.
+pub(crate) fn search(
+    plant: &[u8],
+    mask: u32,
+    table: &[u16],
+    none: u16,
+    waits: &[u16],
+    limit: u16,
+    state: u16,
+) -> u16
+    requires given { ⌜ Given (now plant) mask (now table) none ⌝ }
+    requires waits_long { ⌜ plantOf (now plant) .states ≤ length (now waits) ⌝ }
+    requires in_range { ⌜ state < plantOf (now plant) .states ⌝ }
+    ensures { λ r. ⌜ r ≡ moveInto (plantOf (now (plant .entry))) mask
+        (below (now (waits .entry)) limit (plantOf (now (plant .entry)) .states)) state ⌝ }
+{
+    let x = state as usize;
+    let mut at = table[x] as usize;
+    let last = table[x + 1] as usize;
+    let found = 'moves: loop {
+        if last <= at {
+            break 'moves none;
+        }
+        let action = table[at];
+        let count = table[at + 1] as usize;
+        at += 2;
+        let stop = at + count;
+        loop {
+            if stop <= at {
+                break 'moves action;
+            }
+            let end = table[at] as usize;
+            if limit <= waits[end] {
+                at = stop;
+                continue 'moves;
+            }
+            at += 1;
+        }
+    };
+    found
+}

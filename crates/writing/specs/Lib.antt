@@ -1,0 +1,2 @@
+-- What the writer leaves in the buffers lent.
+pub mod Written

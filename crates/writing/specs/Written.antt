@@ -1,0 +1,35 @@
+-- What the writer returns, and what it leaves in a book buffer and in a drop buffer.
+use mathlib.Core.Bool.{Bool, _&&_}
+use mathlib.Core.List.{List}
+use Prim.Native.Nat.{ℕ, _*_}
+use lib.Dec.{eqb, leb}
+use lib.ListN.{length}
+use Rattle.statements.specs.Sets.{pick, over}
+use Rattle.statements.specs.Plants.{plantOf, plantFault}
+use Rattle.statements.specs.Books.{bytesOf, bookLong, bookStates, bookWithin, droppedStates}
+use Rattle.solve.specs.Rows.{flagged}
+
+-- a plant that is accepted, a flag for each state and room for the book
+unfoldable pub writable : List ℕ → List ℕ → List ℕ → Bool
+writable s start o =
+    eqb (plantFault s) 0
+    && (leb (plantOf s .states) (length start)
+    && leb (bookLong (plantOf s .states) (plantOf s .goals)) (length o))
+
+-- the book's length, and the buffer with the book written; 0 and nothing where it cannot be written
+unfoldable pub writtenLong : List ℕ → List ℕ → List ℕ → ℕ
+writtenLong s start o = pick (writable s start o) (bookLong (plantOf s .states) (plantOf s .goals)) 0
+
+unfoldable pub writtenBook : List ℕ → ℕ → List ℕ → List ℕ → List ℕ
+writtenBook s mask start o = pick (writable s start o) (over (bookWithin (plantOf s) mask (flagged start)) o) o
+
+-- room in a drop buffer for every state of a book
+unfoldable pub listable : List ℕ → List ℕ → Bool
+listable before d = leb (2 * bookStates before) (length d)
+
+-- how many states are dropped, and the buffer with their numbers written; 0 and nothing without that room
+unfoldable pub droppedCount : List ℕ → List ℕ → List ℕ → ℕ
+droppedCount before after d = pick (listable before d) (length (droppedStates before after)) 0
+
+unfoldable pub writtenDrops : List ℕ → List ℕ → List ℕ → List ℕ
+writtenDrops before after d = pick (listable before d) (over (bytesOf (droppedStates before after)) d) d
