@@ -1,14 +1,14 @@
 -- A state stays when its row of entries has a wait for each goal; and the guards of the loops. Assumes nothing.
-use mathlib.Core.Path.{_≡_, refl, sym, ap, _∙_}
-use mathlib.Core.Bool.{Bool, true, false, _&&_, not}
-use mathlib.Core.List.{List, []}
-use Prim.Native.Nat.{ℕ, zero, suc, _+_, _*_, _≤_, _<_}
+use mathlib.Core.Path.{_≡_, refl, sym}
+use mathlib.Core.Bool.{true, false, _&&_, not}
+use mathlib.Core.List.{List}
+use Prim.Native.Nat.{ℕ, _+_, _*_, _≤_, _<_}
 use native.Mathlib.Nat.{mul-le-mul}
 use native.Mathlib.Omega.{arith}
 use lib.Dec.{eqb, leb}
 use lib.ListN.{length, getD, take}
 use borrow.Author.Tests.{leb-true, le-leb, lt-leb, eq-eqb, ne-eqb}
-use Rattle.statements.specs.Sets.{pick, every, numbers, filter, over}
+use Rattle.statements.specs.Sets.{numbers, filter, over}
 use Rattle.statements.specs.Books.{lostMark}
 use Rattle.sets.proofs.Tests.{and-left, and-right}
 use Rattle.sets.proofs.Numbers.{every-all, every-none}

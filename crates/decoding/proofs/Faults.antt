@@ -17,7 +17,7 @@ use Rattle.statements.specs.Books.{bookLong, bookStates, bookMoves, bookGoals, 
 use Rattle.statements.specs.Books.{bookFault}
 use Rattle.statements.specs.Calls.{maskFault, bookRoom, dropRoom, makeFault, alike, withdrawFault, makes, withdraws}
 use Rattle.statements.specs.Calls.{toldOf}
-use Rattle.sets.proofs.Tests.{and-true, and-left, and-right, and-iff}
+use Rattle.sets.proofs.Tests.{and-left, and-right, and-iff}
 use Rattle.sets.proofs.Members.{isIn-none, isIn-consIf}
 use Rattle.decoding.proofs.Sizes.{Sizes}
 

@@ -1,11 +1,9 @@
 -- Headers of plants and books: what a good one says of the counts and the length. Assumes nothing.
-use mathlib.Core.Path.{_≡_, refl}
-use mathlib.Core.Logic.{_↔_}
-use mathlib.Core.Bool.{Bool, true, false, _&&_, false≢true}
+use mathlib.Core.Path.{_≡_}
+use mathlib.Core.Bool.{true}
 use mathlib.Core.List.{List}
 use Prim.Native.Nat.{ℕ, _+_, _*_, _≤_}
 use native.Mathlib.Omega.{arith}
-use lib.Dec.{eqb, leb}
 use lib.ListN.{length}
 use Rattle.statements.specs.Plants.{word, headOk}
 use Rattle.statements.specs.Books.{bookStates, bookMoves, bookGoals, bookMask, bookLong, maskOk, bookHeadOk}

@@ -1,21 +1,20 @@
 -- Kept states: the rounds stand still at last, kept states force every goal within kept states, and every set that does
 -- so is kept. From these: what a smaller start keeps, and what fewer moves keep. Assumes nothing.
-use mathlib.Core.Path.{_≡_, refl, sym, _∙_, ap}
-use mathlib.Core.Logic.{_⊎_, inl, inr, ⊎-elim}
-use mathlib.Core.Bool.{Bool, true, false, _&&_, _||_}
-use mathlib.Core.List.{List, [], _∷_}
-use Prim.Native.Nat.{ℕ, zero, suc, _+_, _≤_, _<_}
+use mathlib.Core.Path.{_≡_, refl}
+use mathlib.Core.Logic.{_⊎_, ⊎-elim}
+use mathlib.Core.Bool.{Bool, true}
+use mathlib.Core.List.{List}
+use Prim.Native.Nat.{ℕ, zero, suc, _≤_, _<_}
 use native.Mathlib.Omega.{arith}
-use lib.ListN.{length}
 use Rattle.statements.specs.Sets.{numbers, iterate, isIn, filter}
-use Rattle.statements.specs.Plants.{Plant, inGoal, can}
+use Rattle.statements.specs.Plants.{Plant}
 use Rattle.statements.specs.Kept.{forced, forcedAll, keptRound, keptWithin}
 use Rattle.sets.proofs.Tests.{same-number}
 use Rattle.sets.proofs.Members.{Sifted, sifted-filter, sifted-sub, sifted-same, filter-holds, filter-in}
 use Rattle.sets.proofs.Members.{filter-length, length-numbers, numbers-holds, numbers-in}
 use Rattle.sets.proofs.Iterate.{iterate-sifted, shrunk-full}
 use Rattle.kept.proofs.Moves.{Sub, MaskWithin}
-use Rattle.kept.proofs.Reach.{forced-more, forced-all}
+use Rattle.kept.proofs.Reach.{forced-more}
 
 -- a state from which each of the first n goals is forced within a set
 pub forcedAll-holds : (n : ℕ) (p : Plant) (mask : ℕ) (all : List ℕ) (x : ℕ) → isIn x (forcedAll n p mask all) ≡ true →

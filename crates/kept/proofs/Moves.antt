@@ -1,19 +1,19 @@
 -- The controllable predecessor: a state is in it exactly when some available move goes wholly into the set, and then
 -- the lowest such move does; it grows with the set and with the moves in service. Assumes nothing.
-use mathlib.Core.Path.{_≡_, refl, sym}
+use mathlib.Core.Path.{_≡_}
 use mathlib.Core.Logic.{⊎-elim}
-use mathlib.Core.Bool.{Bool, true, false, _&&_}
+use mathlib.Core.Bool.{true, false}
 use mathlib.Core.List.{List, [], _∷_}
-use Prim.Native.Nat.{ℕ, zero, suc, _+_, _≤_, _<_}
+use Prim.Native.Nat.{ℕ, _<_}
 use native.Mathlib.Omega.{arith}
-use lib.Dec.{ltb, leb}
+use lib.Dec.{leb}
 use lib.ListN.{length}
-use borrow.Author.Tests.{ltb-true, ltb-false, lt-ltb, leb-true}
+use borrow.Author.Tests.{ltb-true, lt-ltb, leb-true}
 use Rattle.statements.specs.Sets.{bit, first, isIn, allIn}
 use Rattle.statements.specs.Plants.{Plant, ends, available, goesInto, moveInto, can}
 use Rattle.sets.proofs.Tests.{decided, not-both, and-true, and-left, and-right, and-false}
 use Rattle.sets.proofs.Members.{isIn-here, allIn-at, allIn-all, allIn-fails}
-use Rattle.sets.proofs.First.{first-range, first-holds, first-least, first-before}
+use Rattle.sets.proofs.First.{first-holds, first-least, first-before}
 
 -- every arrow's move is one of the plant's
 abbrev pub MovesBelow : Plant → Type 0

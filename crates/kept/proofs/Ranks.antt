@@ -1,10 +1,9 @@
 -- Ranks of the states that are not kept: the round that cut the state, then the first goal that was not forced from it
 -- then. Every available move may lead to a state that is not kept and has a rank no higher, and a lower one where that
 -- goal is met: the opponent's side of the game. Assumes nothing.
-use mathlib.Core.Path.{_≡_, refl, sym, _∙_, ap}
-use mathlib.Core.Logic.{_⊎_, inl, inr, ⊎-elim}
+use mathlib.Core.Path.{_≡_, refl, sym, _∙_}
+use mathlib.Core.Logic.{_⊎_, ⊎-elim}
 use mathlib.Core.Bool.{Bool, true, false, not}
-use mathlib.Core.List.{List, [], _∷_}
 use Prim.Native.Nat.{ℕ, zero, suc, _+_, _-_, _*_, _%_, _≤_, _<_}
 use native.Mathlib.Nat.{mul-le-mul-right, mul-add-mod-self-right, mod-eq-of-lt}
 use native.Mathlib.Omega.{arith}
@@ -12,9 +11,9 @@ use lib.Dec.{ltb}
 use borrow.Author.Tests.{ltb-true, ltb-false, not-true, not-false}
 use Rattle.statements.specs.Sets.{first, isIn}
 use Rattle.statements.specs.Plants.{Plant, inGoal, ends, available, can}
-use Rattle.statements.specs.Kept.{forced, forcedAll, keptRound, keptWithin}
+use Rattle.statements.specs.Kept.{forced, keptRound, keptWithin}
 use Rattle.sets.proofs.Tests.{decided, same-number, not-both}
-use Rattle.sets.proofs.First.{first-range, first-holds, first-least, first-before}
+use Rattle.sets.proofs.First.{first-holds, first-least, first-before}
 use Rattle.kept.proofs.Moves.{MovesBelow, can-not}
 use Rattle.kept.proofs.Reach.{target-in, forced-target, forced-closed}
 use Rattle.kept.proofs.Kept.{forcedAll-holds, forcedAll-in, round-zero, round-suc, round-later}

@@ -1,18 +1,18 @@
 -- The attractor: the states of a set from which a target is forced. It holds the target, is closed under the
 -- controllable predecessor within the set, and is the least such set. Assumes nothing.
-use mathlib.Core.Path.{_≡_, refl, sym, _∙_, ap}
-use mathlib.Core.Logic.{_⊎_, inl, inr, ⊎-elim}
-use mathlib.Core.Bool.{Bool, true, false, _&&_, _||_}
-use mathlib.Core.List.{List, [], _∷_}
-use Prim.Native.Nat.{ℕ, zero, suc, _+_, _≤_, _<_}
+use mathlib.Core.Path.{_≡_}
+use mathlib.Core.Logic.{_⊎_, ⊎-elim}
+use mathlib.Core.Bool.{true, _&&_, _||_}
+use mathlib.Core.List.{List}
+use Prim.Native.Nat.{ℕ, zero, suc, _+_, _≤_}
 use native.Mathlib.Omega.{arith}
 use lib.ListN.{length}
-use Rattle.statements.specs.Sets.{iterate, isIn, filter}
+use Rattle.statements.specs.Sets.{iterate, isIn}
 use Rattle.statements.specs.Plants.{Plant, inGoal, can}
 use Rattle.statements.specs.Kept.{grown, target, forced}
 use Rattle.sets.proofs.Tests.{same-number, and-true, and-left, and-right, or-left, or-right, or-cases}
 use Rattle.sets.proofs.Members.{Sifted, sifted-filter, sifted-member, filter-holds, filter-in}
-use Rattle.sets.proofs.Iterate.{iterate-zero, iterate-suc, iterate-keeps, iterate-still, iterate-sifted, grown-full}
+use Rattle.sets.proofs.Iterate.{iterate-sifted, grown-full}
 use Rattle.kept.proofs.Moves.{Sub, MaskWithin, can-more}
 
 module _ (p : Plant) (mask : ℕ) (all : List ℕ) where

@@ -1,20 +1,20 @@
 -- Waits: a kept state has a wait below the number of kept states, at most n exactly when it is in level n; the listed
 -- move goes into kept states, and above wait 0 into those with a smaller wait. Assumes nothing.
-use mathlib.Core.Path.{_≡_, refl, sym, _∙_, ap}
-use mathlib.Core.Logic.{_⊎_, inl, inr, ⊎-elim}
+use mathlib.Core.Path.{_≡_, refl, ap}
+use mathlib.Core.Logic.{_⊎_, ⊎-elim}
 use mathlib.Core.Bool.{Bool, true, false, _&&_, _||_}
 use mathlib.Core.List.{List, [], _∷_}
-use Prim.Native.Nat.{ℕ, zero, suc, _+_, _-_, _≤_, _<_}
+use Prim.Native.Nat.{ℕ, zero, suc, _-_, _≤_, _<_}
 use native.Mathlib.Omega.{arith}
-use lib.Dec.{eqb, ltb, leb}
+use lib.Dec.{eqb, ltb}
 use lib.ListN.{length}
-use borrow.Author.Tests.{eqb-true, ltb-true, lt-ltb, eq-eqb, leb-true, leb-false}
-use Rattle.statements.specs.Sets.{first, iterate, isIn, filter}
+use borrow.Author.Tests.{eqb-true, ltb-true, lt-ltb, eq-eqb, leb-false}
+use Rattle.statements.specs.Sets.{iterate, isIn, filter}
 use Rattle.statements.specs.Plants.{Plant, inGoal, ends, available, goesInto, moveInto, can}
 use Rattle.statements.specs.Kept.{grown, target, forced, level, waitOf, nearer, listedMove}
 use Rattle.sets.proofs.Tests.{decided, same-number, not-both, or-left, or-right, or-cases}
 use Rattle.sets.proofs.Members.{Sifted, sifted-filter, sifted-member, filter-same, filter-holds, filter-in, isIn-none}
-use Rattle.sets.proofs.First.{first-range, first-holds, first-least}
+use Rattle.sets.proofs.First.{first-holds, first-least}
 use Rattle.sets.proofs.Iterate.{iterate-still}
 use Rattle.kept.proofs.Moves.{Sub, MovesBelow, can-more, can-move, can-not, available-end, into-available}
 use Rattle.kept.proofs.Moves.{into-ends, move-lowest}

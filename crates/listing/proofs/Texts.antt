@@ -1,20 +1,20 @@
 -- The texts part by part, as their writers go through them, and the most bytes that an accepted book's listing has.
 -- Assumes nothing.
 use mathlib.Core.Path.{_≡_}
-use mathlib.Core.Bool.{Bool, true, false}
+use mathlib.Core.Bool.{true, false}
 use mathlib.Core.Logic.{inl, inr}
-use mathlib.Core.List.{List, [], _∷_, _++_}
+use mathlib.Core.List.{List, []}
 use Prim.Native.Nat.{ℕ, zero, suc, _+_, _*_, _≤_, _<_}
 use native.Mathlib.Omega.{arith}
 use lib.Count.{ones, ones-le}
 use lib.ListN.{length, getD, drop, length-append}
 use lib.Seq.{getD-drop}
 use borrow.Author.Tests.{eq-eqb, ne-eqb}
-use Rattle.statements.specs.Sets.{pick, joined}
+use Rattle.statements.specs.Sets.{joined}
 use Rattle.statements.specs.Plants.{word}
 use Rattle.statements.specs.Books.{bookStates, bookGoals, bookCount, bookMask, waitAt, moveAt, isLost, bookFault}
 use Rattle.sets.proofs.Tests.{decided}
-use Rattle.decoding.proofs.Faults.{BookOk, book-ok}
+use Rattle.decoding.proofs.Faults.{book-ok}
 use Rattle.listing.specs.Text.{figure, ofText, keptText, movesText, space, newline, lostText}
 use Rattle.listing.specs.Text.{headText, lineText, stateText, bookText, listing}
 use Rattle.listing.specs.Buffers.{Wrote}

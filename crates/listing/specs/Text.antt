@@ -1,6 +1,6 @@
 -- The texts that `planbook` prints, as ASCII codes: a book's listing, a refusal, `bad masks`. Every line ends in a
 -- newline (10). Document 01 gives the form by an example.
-use mathlib.Core.Bool.{Bool, true, false}
+use mathlib.Core.Bool.{true, false}
 use mathlib.Core.List.{List, [], _∷_, _++_}
 use Prim.Native.Nat.{ℕ, zero, suc, _+_, _/_, _%_}
 use lib.Count.{ones}

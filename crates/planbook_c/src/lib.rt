@@ -1,7 +1,6 @@
 // The calls for C and Rust: a lent slice is a pointer and a length, an answer is a struct of 32-bit numbers.
 // include/planbook.h says the same in C.
 ghost use mathlib.Core.Path.{_≡_};
-ghost use mathlib.Core.Bool.{Bool};
 ghost use Rattle.statements.specs.Sets.{pick};
 ghost use Rattle.books.specs.Says.{MakeSays, WithdrawSays};
 ghost use Rattle.planbook_c.specs.Flat.{plain, AdviceSays, PartSays};

@@ -2,12 +2,12 @@
 -- steps as that set has members. Assumes nothing.
 use mathlib.Core.Path.{_≡_, refl, sym, _∙_, ap}
 use mathlib.Core.Logic.{_⊎_, inl, inr, ⊎-elim}
-use mathlib.Core.Bool.{Bool, true, false}
-use mathlib.Core.List.{List, [], _∷_}
-use Prim.Native.Nat.{ℕ, zero, suc, _+_, _≤_, _<_}
+use mathlib.Core.Bool.{true}
+use mathlib.Core.List.{List}
+use Prim.Native.Nat.{ℕ, zero, suc, _+_, _≤_}
 use native.Mathlib.Omega.{arith}
 use lib.ListN.{length}
-use Rattle.statements.specs.Sets.{iterate, isIn, filter}
+use Rattle.statements.specs.Sets.{iterate, isIn}
 use Rattle.sets.proofs.Tests.{same-number}
 use Rattle.sets.proofs.Members.{Sifted, filter-longer, filter-as-long, filter-length}
 

@@ -24,7 +24,7 @@ use Rattle.sets.proofs.Iterate.{iterate-still, sifted-length}
 use Rattle.kept.proofs.Moves.{Sub, available-end, into-available, into-ends, can-move}
 use Rattle.kept.proofs.Reach.{steps-sifted, steps-later}
 use Rattle.solve.specs.Given.{below}
-use Rattle.solve.specs.Reached.{within, before, stepOf, reached, reachedBy, Column, Marks}
+use Rattle.solve.specs.Reached.{within, before, stepOf, reached, reachedBy, Marks}
 use Rattle.solve.specs.Reaching.{without, Swept, Open, opened, nextMove, stepMove}
 
 -- the move found first, in the goal and out of it
@@ -131,6 +131,11 @@ can-none p mask x =
     absurd (isIn-none (e .0) (into-ends p mask [] x u m (e .0) (e .1))))
     (λ h. h)
     (decided (can p mask [] x))
+
+-- the arrays hold the reach to goal i
+pub record Column (p : Plant) (mask : ℕ) (all : List ℕ) (i : ℕ) (waits listed : List ℕ) : Type 0 where
+  pub wait-is : (x : ℕ) → x < p .states → getD waits x 0 ≡ reached p mask all i x
+  pub move-is : (x : ℕ) → x < p .states → getD listed x 0 ≡ reachedBy p mask all i x
 
 -- the states reached in fewer than n steps
 unfoldable pub fewer : Plant → ℕ → List ℕ → ℕ → ℕ → List ℕ

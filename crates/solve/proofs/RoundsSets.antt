@@ -2,7 +2,7 @@
 -- those from which every goal is forced. Assumes nothing.
 use mathlib.Core.Path.{_≡_, refl, sym, ap, _∙_}
 use mathlib.Core.Logic.{⊎-elim}
-use mathlib.Core.Bool.{Bool, true, false, _&&_, not}
+use mathlib.Core.Bool.{Bool, true, false, not}
 use mathlib.Core.List.{List}
 use Prim.Native.Nat.{ℕ, suc, _+_, _*_, _≤_, _<_}
 use native.Mathlib.Nat.{mul-le-mul-right}
@@ -15,7 +15,7 @@ use Rattle.statements.specs.Sets.{pick, every, numbers, isIn, filter, over}
 use Rattle.statements.specs.Plants.{Plant}
 use Rattle.statements.specs.Kept.{forced, forcedAll}
 use Rattle.statements.specs.Books.{lostMark}
-use Rattle.sets.proofs.Tests.{decided, same-number, and-right}
+use Rattle.sets.proofs.Tests.{same-number, and-right}
 use Rattle.sets.proofs.Members.{Sifted, sifted-member, sifted-same, sifted-sub, filter-holds, filter-in}
 use Rattle.sets.proofs.Members.{length-numbers, numbers-holds, filter-length}
 use Rattle.sets.proofs.Numbers.{every-at}
@@ -27,9 +27,10 @@ use Rattle.arrays.proofs.Sieves.{over-done}
 use Rattle.arrays.proofs.Marks.{zeroed-length, zeroed-in, zeroed-out}
 use Rattle.arrays.proofs.Columns.{stored-yes, column-is, column-stays, column-length, column-rest}
 use Rattle.arrays.proofs.Rows.{fitting-yes, flag-fits, stays-yes, stay-fits}
-use Rattle.solve.specs.Reached.{within, stepOf, reached, Column, Marks}
+use Rattle.solve.specs.Reached.{within, stepOf, reached, Marks}
 use Rattle.solve.specs.Rows.{Columns, flagged}
 use Rattle.solve.specs.Rounds.{Rest}
+use Rattle.solve.proofs.ReachSteps.{Column}
 
 -- an array with zeros at the states of a set marks it
 marks-are : (all : List ℕ) → Marks all (zeroed all (replicate 1024 lostMark))

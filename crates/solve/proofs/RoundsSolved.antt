@@ -121,8 +121,8 @@ module _ (s : List ℕ) (mask : ℕ) (start all : List ℕ) (count : ℕ) (b : B
   pub done-few : r ≤ 1024
   done-few =
       let most = ok .sizes .states-most in
-      let test = flagged start in
-      let few = set-length (plantOf s) mask (keptWithin (plantOf s) mask test) (kept-sifted (plantOf s) mask test) most in
+      let kept = keptWithin (plantOf s) mask (flagged start) in
+      let few = set-length (plantOf s) mask kept (kept-sifted (plantOf s) mask (flagged start)) most in
       omega (arith, is ∙ ap length (b .same))
 
   pub done-solved : (states goals : ℕ) (old : List ℕ) {new : List ℕ}

@@ -1,8 +1,8 @@
--- The search of a state's groups, turn by turn: what is left of the groups decides which move is found, and what is left
--- of a group's ends decides whether its move goes below the limit. Assumes nothing.
+-- The search of a state's groups, turn by turn: what is left of the groups decides which move is found, and what is
+-- left of a group's ends decides whether its move goes into the set. Assumes nothing.
 use mathlib.Core.Path.{_≡_, refl, sym, ap, _∙_}
 use mathlib.Core.Logic.{⊎-elim}
-use mathlib.Core.Bool.{Bool, true, false, _&&_}
+use mathlib.Core.Bool.{true, false}
 use mathlib.Core.List.{List, [], _∷_, _++_}
 use Prim.Native.Nat.{ℕ, zero, suc, _+_, _-_, _≤_, _<_}
 use native.Mathlib.Nat.{add-zero}
@@ -11,8 +11,7 @@ use native.Mathlib.Omega.{arith}
 use lib.Dec.{ltb}
 use lib.ListN.{length, getD, take, drop, length-append, length-drop, drop-of-length-le}
 use lib.Seq.{slice, slice-cons, length-slice, length-take-le, drop-cons, drop-drop, drop-append-seam}
-use borrow.Author.Tests.{lt-ltb, le-ltb}
-use Rattle.statements.specs.Sets.{pick, joined, numbers, first, isIn, allIn}
+use Rattle.statements.specs.Sets.{joined, numbers, first, isIn, allIn}
 use Rattle.statements.specs.Plants.{Plant, ends, available, goesInto, moveInto}
 use Rattle.sets.proofs.Tests.{decided}
 use Rattle.sets.proofs.Members.{isIn-here, isIn-there, filter-test, numbers-in}
@@ -257,12 +256,13 @@ module _ {p : Plant} {mask : ℕ} {table waits : List ℕ} {x : ℕ} (q : Sought
             let more = joined (d .left) (suc action) (groupOf p mask x) in
             let bad : goesInto p mask ys x action ≡ false =
             d .into ∙ ap (λ (zs : List ℕ). allIn zs ys) first-end ∙ rw e in
+            let behind : slice stop last table ≡ more =
+            ap (λ (n : ℕ). slice n last table) (d .stop-is) ∙ sym (drop-drop (length (d .todo)) at (take last table))
+            ∙ ap (drop (length (d .todo))) (d .text) ∙ drop-append-seam (d .todo) more in
             record {
               from = suc action;
               left = d .left;
               all = omega (arith, d .all);
-              text =
-                  ap (λ (n : ℕ). slice n last table) (d .stop-is) ∙ sym (drop-drop (length (d .todo)) at (take last table))
-                  ∙ ap (drop (length (d .todo))) (d .text) ∙ drop-append-seam (d .todo) more;
+              text = behind;
               same = d .same ∙ first-no (d .left) action (goesInto p mask ys x) bad;
             }

@@ -30,11 +30,6 @@ unfoldable pub reachedBy : Plant → ℕ → List ℕ → ℕ → ℕ → ℕ
 reachedBy p mask all i x =
     pick (isIn x (forced p mask all i)) (moveInto p mask (before p mask all i (stepOf p mask all i x)) x) lostMark
 
--- the arrays hold the reach to goal i
-pub record Column (p : Plant) (mask : ℕ) (all : List ℕ) (i : ℕ) (waits listed : List ℕ) : Type 0 where
-  pub wait-is : (x : ℕ) → x < p .states → getD waits x 0 ≡ reached p mask all i x
-  pub move-is : (x : ℕ) → x < p .states → getD listed x 0 ≡ reachedBy p mask all i x
-
 -- an array of 1,024 marks: 0 for the states of a set, the mark for all others
 pub record Marks (all member : List ℕ) : Type 0 where
   pub inside : (x : ℕ) → x < 1024 → isIn x all ≡ true → getD member x 0 ≡ 0

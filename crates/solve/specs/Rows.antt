@@ -1,10 +1,10 @@
 -- The rows of a book as numbers, and what the solver answers.
 use mathlib.Core.Path.{_≡_}
-use mathlib.Core.Bool.{Bool, true, false, _&&_}
-use mathlib.Core.List.{List, [], _∷_, _++_}
-use Prim.Native.Nat.{ℕ, suc, _+_, _*_, _<_}
+use mathlib.Core.Bool.{Bool, _&&_}
+use mathlib.Core.List.{List, [], _∷_}
+use Prim.Native.Nat.{ℕ, _+_, _*_, _<_}
 use lib.Dec.{eqb, leb}
-use lib.ListN.{length, getD, drop}
+use lib.ListN.{length, getD}
 use Rattle.statements.specs.Sets.{pick, joined, iterate, isIn, over}
 use Rattle.statements.specs.Plants.{Plant, plantOf, plantFault}
 use Rattle.statements.specs.Kept.{forcedAll, keptWithin, waitOf, listedMove}
@@ -15,7 +15,8 @@ use Rattle.solve.specs.Reached.{reached, reachedBy}
 -- the entries hold the reach to each of the first n goals: wait, then move, by state and goal
 pub record Columns (p : Plant) (mask : ℕ) (all : List ℕ) (n : ℕ) (entries : List ℕ) : Type 0 where
   pub wait-is : (x i : ℕ) → x < p .states → i < n → getD entries (2 * (x * p .goals + i)) 0 ≡ reached p mask all i x
-  pub move-is : (x i : ℕ) → x < p .states → i < n → getD entries (2 * (x * p .goals + i) + 1) 0 ≡ reachedBy p mask all i x
+  pub move-is : (x i : ℕ) → x < p .states → i < n
+      → getD entries (2 * (x * p .goals + i) + 1) 0 ≡ reachedBy p mask all i x
 
 -- the states kept when the rounds begin with a set
 unfoldable pub keptFrom : Plant → ℕ → List ℕ → List ℕ
@@ -36,7 +37,9 @@ writtenRows p mask kept entries = over (rowNumbers p mask kept) entries
 -- a plant that is accepted, a flag for each state and room for the rows
 unfoldable pub solvable : List ℕ → List ℕ → List ℕ → Bool
 solvable s start entries =
-    eqb (plantFault s) 0 && (leb (plantOf s .states) (length start) && leb (2 * (plantOf s .states * plantOf s .goals)) (length entries))
+    eqb (plantFault s) 0 &&
+    (leb (plantOf s .states) (length start) &&
+    leb (2 * (plantOf s .states * plantOf s .goals)) (length entries))
 
 -- the number kept, and the entries with the rows written; 65,535 and nothing where the solver cannot work
 unfoldable pub solvedCount : List ℕ → ℕ → List ℕ → List ℕ → ℕ

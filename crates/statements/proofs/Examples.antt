@@ -1,6 +1,5 @@
 -- The marked examples hold of the definitions: each is computed. Assumes nothing.
 use mathlib.Core.Path.{refl}
-use lib.Bits.{bitAnd}
 use Rattle.statements.specs.Sets.{bit, numbers, every, first, joined, iterate, isIn, allIn, filter}
 use Rattle.statements.specs.Plants.{word, labelsFrom, arrowsFrom, plantOf, headOk, labelsOk, rank, arrowsOk}
 use Rattle.statements.specs.Plants.{plantFault, allowed, inGoal, endsIn, ends, available, goesInto, moveInto}
@@ -15,7 +14,7 @@ use Rattle.statements.specs.Calls.{maskFault, bookRoom, dropRoom, makeFa
 use Rattle.statements.specs.Calls.{rowPart, answerOf, writtenBy, standingAfter, standing, answers, toldOf, told}
 use Rattle.statements.specs.Calls.{putBy, inService}
 use Rattle.statements.specs.Marked.{plantP, plantStill, plantLoop, plantMay, plantEnd, bookP, lostRow}
-use Rattle.statements.specs.Marked.{bookM1, bookM9, allLost, Makes, Withdraws, Consults, Marked}
+use Rattle.statements.specs.Marked.{bookM1, bookM9, allLost, Marked}
 
 pub marked : Marked
 unfolding bit numbers every first joined iterate isIn allIn filter word labelsFrom arrowsFrom plantOf headOk labelsOk rank arrowsOk plantFault allowed inGoal endsIn ends available goesInto moveInto can grown target forced forcedAll keptRound keptWithin level waitOf nearer listedMove two bookLong entryOf rowOf headOf bookBytes bookStates bookMoves bookGoals bookCount bookMask waitAt moveAt isLost isHeld bookKept maskOk bookHeadOk rowsOk bookFault nextGoal lessMask bookWithin madeBook keptBefore withdrawnBook droppedStates maskFault bookRoom dropRoom makeFault alike withdrawFault consultFault rowPart answerOf writtenBy standingAfter standing answers toldOf told putBy inService bytesOf plantP plantStill plantLoop plantMay plantEnd bookP lostRow bookM1 bookM9 allLost

@@ -1,8 +1,8 @@
 -- The calls' refusals, 1 to 8, and lists of calls: the standing book, and the moves in service as told from the calls.
-use mathlib.Core.Bool.{Bool, true, false, _&&_, _||_, not}
+use mathlib.Core.Bool.{Bool, _&&_, _||_, not}
 use mathlib.Core.List.{List, [], _∷_}
-use Prim.Native.Nat.{ℕ, zero, suc, _+_, _*_}
-use lib.Dec.{eqb, ltb, leb}
+use Prim.Native.Nat.{ℕ, _+_, _*_}
+use lib.Dec.{eqb, leb}
 use lib.ListN.{take, drop}
 use Rattle.statements.specs.Sets.{pick}
 use Rattle.statements.specs.Plants.{firstOf, when, Plant, plantOf, plantFault}

@@ -1,14 +1,14 @@
 -- Demands 2 and 3, stated: these records are what the product claims of its books. The proofs are in crate demands.
 use mathlib.Core.Path.{_≡_}
 use mathlib.Core.Logic.{_↔_}
-use mathlib.Core.Bool.{Bool, true, false}
-use mathlib.Core.List.{List, [], _∷_}
-use Prim.Native.Nat.{ℕ, zero, suc, _+_, _*_, _≤_, _<_}
+use mathlib.Core.Bool.{true, false}
+use mathlib.Core.List.{List}
+use Prim.Native.Nat.{ℕ, _≤_, _<_}
 use lib.ListN.{length, getD}
 use Rattle.statements.specs.Sets.{isIn}
-use Rattle.statements.specs.Plants.{word, Plant, plantOf, plantFault, allowed, ends, available}
+use Rattle.statements.specs.Plants.{word, Plant, plantOf, allowed, ends, available}
 use Rattle.statements.specs.Books.{bookLong, bookStates, bookMoves, bookGoals, bookCount, bookMask, waitAt}
-use Rattle.statements.specs.Books.{moveAt, isLost, bookKept, maskOk, lessMask, keptBefore, madeBook}
+use Rattle.statements.specs.Books.{moveAt, isLost, bookKept, lessMask, keptBefore, madeBook}
 use Rattle.statements.specs.Books.{withdrawnBook, droppedStates}
 use Rattle.statements.specs.Calls.{makeFault, withdrawFault, Call, standing, answers, told, inService}
 use Rattle.statements.specs.Strategies.{Wins-by, Wins, Forces, following}

@@ -1,9 +1,8 @@
 -- The marked examples M1 to M11 of document 01 as one table. Plants and books are written as their two-byte numbers.
 use mathlib.Core.Path.{_≡_}
-use mathlib.Core.Bool.{Bool, true, false}
 use mathlib.Core.List.{List, [], _∷_, _++_}
-use Prim.Native.Nat.{ℕ, zero, suc, _-_}
-use Rattle.statements.specs.Plants.{Plant, plantOf}
+use Prim.Native.Nat.{ℕ, _-_}
+use Rattle.statements.specs.Plants.{plantOf}
 use Rattle.statements.specs.Books.{bytesOf, waitAt, moveAt, nextGoal, madeBook, withdrawnBook, droppedStates}
 use Rattle.statements.specs.Calls.{makeFault, withdrawFault, consultFault}
 

@@ -1,6 +1,6 @@
 -- A plant: its bytes, refusals 1 to 3, and what may be done in it. The standard term is a finite nondeterministic
 -- transition system with labelled states; a move is an action (a control input), an arrow a transition.
-use mathlib.Core.Bool.{Bool, true, false, _&&_, _||_, not}
+use mathlib.Core.Bool.{Bool, true, false, _&&_, not}
 use mathlib.Core.List.{List, [], _∷_}
 use Prim.Native.Nat.{ℕ, zero, suc, _+_, _*_, _^_}
 use lib.Dec.{eqb, ltb, leb}

@@ -1,7 +1,7 @@
 -- Strategies over whole histories, their plays and runs, and what it is to win and to force a goal in time.
 -- A strategy is a history-dependent controller; which arrow is followed is the opponent's choice.
 use mathlib.Core.Path.{_≡_}
-use mathlib.Core.Bool.{Bool, true, false}
+use mathlib.Core.Bool.{true, false}
 use mathlib.Core.List.{List, [], _∷_}
 use mathlib.Core.Option.{Option, none, some}
 use Prim.Native.Nat.{ℕ, zero, suc, _≤_, _<_}

@@ -1,6 +1,6 @@
 -- `arrays::cut` meets its contract: after k turns the front holds those of the first k states that stay, and past it
 -- the list is as it was. Assumes nothing.
-use mathlib.Core.Path.{_≡_, refl, sym, ap, _∙_}
+use mathlib.Core.Path.{_≡_, refl, sym, _∙_}
 use mathlib.Core.Logic.{⊎-elim}
 use mathlib.Core.List.{[], _∷_, _++_}
 use Prim.Native.Nat.{_≤_, _-_, _+_}

@@ -1,6 +1,6 @@
 -- `planbook_c::planbook_consult` meets its contract: it hands on what the planner's consult answers, true as 1.
 -- Assumes nothing.
-use mathlib.Core.Path.{_≡_, _∙_, ap}
+use mathlib.Core.Path.{_∙_, ap}
 use mathlib.Core.Bool.{Bool}
 use Rattle.statements.specs.Sets.{pick}
 use borrow.Author.Needs.{needs}

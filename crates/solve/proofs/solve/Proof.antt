@@ -1,6 +1,6 @@
 -- `solve::solve` meets its contract: where there is room and the table is loaded, the rounds from the flagged states
 -- leave the rows of the kept states. Assumes nothing.
-use mathlib.Core.Path.{_≡_, refl, sym, _∙_}
+use mathlib.Core.Path.{_≡_, sym, _∙_}
 use mathlib.Core.Bool.{true}
 use mathlib.Core.List.{List}
 use Prim.Native.Nat.{ℕ, _*_, _≤_}

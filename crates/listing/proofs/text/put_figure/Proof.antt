@@ -1,5 +1,4 @@
 -- `listing::text::put_figure` meets its contract: the digits, then the text. Assumes nothing.
-use mathlib.Core.Path.{refl}
 use native.Mathlib.Omega.{arith}
 use denote.Ref.{now}
 use lib.ListN.{length-append}

@@ -1,6 +1,5 @@
 -- `listing::text::put_refused` meets its contract: the word, then the number. Assumes nothing.
 use native.Mathlib.Omega.{arith}
-use denote.Ref.{now}
 use Rattle.listing.specs.Text.{newline, refusedText}
 use Rattle.listing.proofs.Digits.{figure-few}
 use Rattle.listing.proofs.Writing.{wrote-then}

@@ -1,7 +1,7 @@
 -- `solve::reach::reach` meets its contract: step by step the arrays hold what is reached, until a step reaches nothing
 -- new, and then they are stored. Each step but the last takes a state from the rest, so there are no more than states.
 -- Assumes nothing.
-use mathlib.Core.Path.{_≡_, sym}
+use mathlib.Core.Path.{sym}
 use Prim.Native.Nat.{ℕ, _≤_}
 use native.Mathlib.Omega.{arith}
 use lib.ListN.{length, length-replicate}

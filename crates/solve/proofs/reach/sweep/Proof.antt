@@ -1,6 +1,5 @@
 -- `solve::reach::sweep` meets its contract: after k turns the first k states of the rest are placed, and from k on the
 -- rest is as it was. The waits written are not below the step, so each state sees the same set. Assumes nothing.
-use mathlib.Core.Path.{_≡_}
 use mathlib.Core.Logic.{⊎-elim}
 use Prim.Native.Nat.{ℕ, _≤_, _<_, _-_}
 use native.Mathlib.Omega.{arith}

@@ -1,6 +1,6 @@
--- `solve::search::search` meets its contract: at each group the moves left decide which move is found, and at each end of
--- a move the ends left decide whether it goes below the limit. Assumes nothing.
-use mathlib.Core.Path.{_≡_, sym, _∙_}
+-- `solve::search::search` meets its contract: at each group the moves left decide which move is found, and at each end
+-- of a move the ends left decide whether it goes below the limit. Assumes nothing.
+use mathlib.Core.Path.{sym, _∙_}
 use Prim.Native.Nat.{_+_, _-_, _≤_, _<_}
 use native.Mathlib.Omega.{arith}
 use lib.ListN.{getD, length}
@@ -48,7 +48,8 @@ sought s =
     }
 
 -- the groups are in the table
-long : (s : tie.Start Inv-loop μ-loop Inv-moves μ-moves) → getD (s .args .table .now) (s .args .state + 1) 0 ≤ length (s .args .table .now)
+long : (s : tie.Start Inv-loop μ-loop Inv-moves μ-moves)
+    → getD (s .args .table .now) (s .args .state + 1) 0 ≤ length (s .args .table .now)
 long s = laws.sought-last (sought s)
 
 -- a group has two numbers
@@ -153,8 +154,10 @@ moves-again : tie.Need-moves-again Inv-loop μ-loop Inv-moves μ-moves
 moves-again c =
     let e = c .before .before .before in
     let s = entry (group (e .before) .before) in
+    let y = getD (s .args .table .now) (e .before .loop .at) 0 in
+    let high : s .args .limit ≤ getD (s .args .waits .now) y 0 = omega (arith, c .if3 .taken) in
     laws.ends-fail (sought s) (e .before .loop .inv) (e .if2 .left) (long s)
-    (laws.below-test _ _ _ _ (end-state e) ∙ le-ltb _ _ (c .if3 .taken))
+    (laws.below-test (s .args .waits .now) (s .args .limit) _ y (end-state e) ∙ le-ltb _ _ high)
 
 add-at-2 : tie.Need-add-at-2 Inv-loop μ-loop Inv-moves μ-moves
 add-at-2 c =
@@ -168,8 +171,10 @@ loop-again : tie.Need-loop-again Inv-loop μ-loop Inv-moves μ-moves
 loop-again c =
     let e = c .before .before .before in
     let s = entry (group (e .before) .before) in
+    let y = getD (s .args .table .now) (e .before .loop .at) 0 in
+    let low : getD (s .args .waits .now) y 0 < s .args .limit = omega (arith, c .if3 .left) in
     laws.ends-pass (sought s) (e .before .loop .inv) (e .if2 .left) (long s)
-    (laws.below-test _ _ _ _ (end-state e) ∙ lt-ltb _ _ (c .if3 .left))
+    (laws.below-test (s .args .waits .now) (s .args .limit) _ y (end-state e) ∙ lt-ltb _ _ low)
 
 returns : tie.Need-returns Inv-loop μ-loop Inv-moves μ-moves
 returns c =
