@@ -1,25 +1,30 @@
 -- Consulting a book and handing back a row, case by case: refused, lost, kept. Assumes nothing.
-use mathlib.Core.Path.{_≡_, sym, ap, ap₂, _∙_}
-use mathlib.Core.Bool.{true, false, not}
+use mathlib.Core.Path.{_≡_, refl, sym, ap, ap₂, _∙_}
+use mathlib.Core.Bool.{Bool, true, false, not}
 use mathlib.Core.List.{List, []}
-use Prim.Native.Nat.{ℕ, _+_, _-_, _*_, _≤_, _<_}
+use Prim.Native.Nat.{ℕ, suc, _+_, _-_, _*_, _≤_, _<_}
 use native.Mathlib.Omega.{arith}
 use lib.Dec.{eqb}
 use lib.ListN.{length, take, drop, length-drop}
 use lib.Seq.{length-take-le}
 use borrow.Author.Tests.{eq-eqb, ne-eqb, leb-false}
-use Rattle.statements.specs.Books.{bookStates, bookGoals, waitAt, moveAt, isLost, nextGoal}
+use Rattle.statements.specs.Plants.{when}
+use Rattle.statements.specs.Books.{bookLong, bookStates, bookGoals, waitAt, moveAt, isLost, nextGoal}
 use Rattle.statements.specs.Calls.{consultFault, rowPart}
 use Rattle.books.specs.Says.{accepted, keeps, ConsultSays, rowStart}
 use Rattle.sets.proofs.Tests.{or-neither}
-use Rattle.format.proofs.Header.{BookHead, book-head}
-use Rattle.format.proofs.Faults.{both-none, when-none, book-fine}
-use Rattle.format.proofs.Rows.{row-within}
+use Rattle.decoding.proofs.Faults.{BookOk, book-ok, first-iff}
+use Rattle.rows.proofs.Rows.{row-within}
+
+-- an answer of 0 says that its test fails
+when-none : (t : Bool) (n : ℕ) → when t (suc n) ≡ 0 → t ≡ false
+when-none true n e = absurd (omega arith)
+when-none false n e = refl
 
 module _ (b : List ℕ) (x i : ℕ) where
   -- what an accepted call may rely on
   pub record Fine : Type 0 where
-    pub head : BookHead b
+    pub head : BookOk b
     pub state : x < bookStates b
     pub goal : i < bookGoals b
 
@@ -27,10 +32,10 @@ module _ (b : List ℕ) (x i : ℕ) where
   pub fine : consultFault b x i ≡ 0 → Fine
   unfolding consultFault
   fine e =
-      let f = both-none _ _ e in
+      let f = first-iff _ _ .0 e in
       let t = or-neither _ _ (when-none _ 7 (f .1)) in
       record {
-        head = book-head b (book-fine b (f .0) .head);
+        head = book-ok b (f .0);
         state = leb-false _ _ (t .0);
         goal = leb-false _ _ (t .1);
       }
@@ -97,9 +102,10 @@ module _ (b : List ℕ) (x : ℕ) (given : consultFault b x 0 ≡ 0) where
 
   -- the row stands within the book
   pub row-fits : 16 + 4 * (x * bookGoals b) + 4 * bookGoals b ≤ length b
+  unfolding bookLong
   row-fits =
       let f = fine b x 0 given in
-      omega (arith, f .head .long, row-within x (bookGoals b) (f .state))
+      omega (arith, f .head .size, row-within x (bookGoals b) (f .state))
 
   -- it has four bytes for each goal
   pub length-row : length (rowPart b x) ≡ 4 * bookGoals b

@@ -29,12 +29,12 @@ pub(crate) fn advise(book: &[u8], state: u32, goal: u32) -> Advice
     requires kept { ⌜ isLost (now book) state ≡ false ⌝ }
     ensures { λ r. ⌜ ConsultSays (now (book .entry)) state goal r ⌝ }
 {
-    let wait = format::book::wait_at(book, state, goal);
+    let wait = rows::wait_at(book, state, goal);
     let goals = format::word::number(book, 2);
     Advice {
         number: 0,
         lost: false,
-        action: format::book::move_at(book, state, goal),
+        action: rows::move_at(book, state, goal),
         wait: wait,
         seek: next_goal(wait, goals, goal as u16),
     }

@@ -35,7 +35,7 @@ pub fn consult_book(book: &[u8], state: u32, goal: u32) -> Advice
             seek: 0,
         };
     }
-    if format::book::is_lost(book, state) {
+    if rows::is_lost(book, state) {
         return Advice {
             number: 0,
             lost: true,
@@ -57,7 +57,7 @@ pub fn state_row<'a>(book: &'a [u8], state: u32) -> &'a [u8]
     if refusals::consult(book, state, 0) != 0 {
         return &book[..0];
     }
-    let start = format::book::entry_place(book, state, 0);
+    let start = rows::entry_place(book, state, 0);
     let end = start + 4 * (format::word::number(book, 2) as usize);
     &book[start..end]
 }
@@ -116,7 +116,7 @@ pub fn withdraw_moves(
     }
     let mut flags = [0u8; 1024];
     start::kept(plant, book, &mut flags);
-    let old = format::book::mask(book);
+    let old = rows::mask(book);
     let length = writing::book(plant, old - (old & mask), &flags, out);
     let count = writing::dropped(book, &out[..length as usize], drops);
     Answer {

@@ -1,7 +1,7 @@
 // The states that strategies may not leave, as a flag for each state: 1 for those states, 0 for the others.
-use format::book::is_lost;
 use format::plant::is_allowed;
 use format::word::number;
+use rows::is_lost;
 ghost use mathlib.Core.Path.{_≡_};
 ghost use Prim.Native.Nat.{ℕ, _≤_, _<_};
 ghost use lib.ListN.{length};

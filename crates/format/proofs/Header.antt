@@ -1,4 +1,4 @@
--- Headers of plants and books: what a good one says of the counts and the length. Assumes nothing.
+-- The header of a plant: what a good one says of the counts and the length. Assumes nothing.
 use mathlib.Core.Path.{_≡_}
 use mathlib.Core.Bool.{true}
 use mathlib.Core.List.{List}
@@ -6,7 +6,6 @@ use Prim.Native.Nat.{ℕ, _+_, _*_, _≤_}
 use native.Mathlib.Omega.{arith}
 use lib.ListN.{length}
 use Rattle.statements.specs.Plants.{word, headOk}
-use Rattle.statements.specs.Books.{bookStates, bookMoves, bookGoals, bookMask, bookLong, maskOk, bookHeadOk}
 use Rattle.sets.proofs.Tests.{and-iff, leb-iff, eqb-iff}
 use Rattle.decoding.proofs.Sizes.{Sizes}
 
@@ -22,16 +21,3 @@ unfolding headOk
 plant-head s h =
     let k = simp (and-iff, leb-iff, eqb-iff) at h in
     omega arith
-
--- what a good header says of a book
-pub record BookHead (b : List ℕ) : Type 0 where
-  pub sizes : Sizes (bookStates b) (bookMoves b) (bookGoals b)
-  pub mask-in : maskOk (bookMoves b) (bookMask b) ≡ true
-  pub long : length b ≡ 16 + 4 * (bookStates b * bookGoals b)
-
--- the header check of a book says all that
-pub book-head : (b : List ℕ) → bookHeadOk b ≡ true → BookHead b
-unfolding bookHeadOk bookLong
-book-head b h =
-    let k = simp (and-iff, leb-iff, eqb-iff) at h in
-    record { sizes = omega arith; mask-in = search; long = omega arith }

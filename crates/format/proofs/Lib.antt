@@ -1,7 +1,5 @@
 -- Laws of the format's definitions, for the proofs of this crate and of the crates above it.
 pub mod Words
-pub mod Loops
-pub mod Rows
 pub mod Header
 pub mod Parts
 pub mod Faults

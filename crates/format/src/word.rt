@@ -4,7 +4,7 @@ ghost use Prim.Native.Nat.{_+_, _*_, _<_};
 ghost use lib.ListN.{length, drop};
 ghost use Rattle.statements.specs.Sets.{bit};
 ghost use Rattle.statements.specs.Plants.{word};
-ghost use Rattle.statements.specs.Books.{maskAt};
+ghost use Rattle.statements.specs.Books.{maskAt, maskOk};
 
 // The number of a low and a high byte.
 fn pair(low: u8, high: u8) -> u16
@@ -47,6 +47,16 @@ pub fn mask_at(masks: &[u8], k: u8) -> u32
 {
     let at = 4 * (k as usize);
     (word_at(masks, at) as u32) + 65536 * (word_at(masks, at + 2) as u32)
+}
+
+// A mask has no bit at the number of moves or above.
+pub fn mask_ok(moves: u32, mask: u32) -> bool
+    ensures { λ r. ⌜ r ≡ maskOk moves mask ⌝ }
+{
+    if 32 <= moves {
+        return true;
+    }
+    mask < (1 << moves)
 }
 
 // Bit i of a number.

@@ -11,7 +11,7 @@ pub fn list_book(book: &[u8], out: &mut [u8]) -> u32
     ensures long { λ r. ⌜ r ≡ placedLong (listing (now (book .entry))) (now (out .entry)) ⌝ }
     ensures bytes { λ r. ⌜ now (out .exit) ≡ placed (listing (now (book .entry))) (now (out .entry)) ⌝ }
 {
-    if format::book_fault(book) != 0 {
+    if rows::book_fault(book) != 0 {
         return 0;
     }
     let long = text::put_book(&mut out[..0], book);

@@ -1,10 +1,10 @@
 // Writers of text: each puts its text at a place of a buffer and returns the place after it, which must be a usize.
 // What would stand past the buffer's end is not put, so with an empty buffer a writer only counts.
-use format::book::is_lost;
-use format::book::mask;
-use format::book::move_at;
-use format::book::wait_at;
 use format::word::number;
+use rows::is_lost;
+use rows::mask;
+use rows::move_at;
+use rows::wait_at;
 ghost use mathlib.Core.Path.{_≡_};
 ghost use Prim.Native.Nat.{_+_, _^_, _<_};
 ghost use lib.ListN.{length, set};

@@ -7,7 +7,7 @@ use native.Mathlib.Nat.{mul-le-mul}
 use native.Mathlib.Omega.{arith}
 use lib.ListN.{length}
 use Rattle.statements.specs.Plants.{word}
-use Rattle.statements.specs.Books.{bookGoals}
+use Rattle.statements.specs.Books.{bookLong, bookGoals}
 use Rattle.statements.specs.Calls.{consultFault}
 use Rattle.books.proofs.Consulted.{fine, no-row, no-start, start-given, length-row, row-fits}
 use Rattle.planbook_c.specs.Flat.{PartSays}
@@ -32,6 +32,7 @@ part-given b x at goals e p g =
 
 -- the place is within the book, whose length fits a header number
 pub part-fits : (b : List ℕ) (x at : ℕ) → consultFault b x 0 ≡ 0 → at ≡ 16 + 4 * (x * bookGoals b + 0) → at < 65536
+unfolding bookLong
 part-fits b x at e p =
     let f = fine b x 0 e in
-    omega (arith, row-fits b x e, f .head .long, mul-le-mul (f .head .sizes .states-most) (f .head .sizes .goals-most))
+    omega (arith, row-fits b x e, f .head .size, mul-le-mul (f .head .sizes .states-most) (f .head .sizes .goals-most))

@@ -100,7 +100,7 @@ pub extern "C" fn planbook_row(book: &[u8], state: u32) -> Part
             length: 0,
         };
     }
-    let start = format::book::entry_place(book, state, 0);
+    let start = rows::entry_place(book, state, 0);
     let goals = format::word::number(book, 2);
     Part {
         number: 0,

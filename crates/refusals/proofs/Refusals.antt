@@ -3,7 +3,7 @@ use mathlib.Core.Path.{_≡_, refl, ap, _∙_}
 use mathlib.Core.Logic.{inl, inr}
 use mathlib.Core.Bool.{Bool, true, false, _&&_, _||_, not}
 use mathlib.Core.List.{List}
-use Prim.Native.Nat.{ℕ}
+use Prim.Native.Nat.{ℕ, zero, suc}
 use lib.Dec.{eqb, leb}
 use borrow.Author.Tests.{not-false}
 use Rattle.statements.specs.Plants.{Plant, firstOf, when, plantOf, plantFault}
@@ -12,7 +12,12 @@ use Rattle.statements.specs.Calls.{maskFault, bookRoom, dropRoom, makeFault, al
 use Rattle.statements.specs.Calls.{consultFault, toldOf}
 use Rattle.sets.proofs.Tests.{decided, or-neither}
 use Rattle.decoding.proofs.Faults.{make-told, withdraw-told}
-use Rattle.format.proofs.Faults.{first-given, fault-4, fault-5, no-book-fault}
+use Rattle.rows.proofs.Faults.{fault-4, fault-5, no-book-fault}
+
+-- the first answer stands if it is not 0
+first-given : (a b : ℕ) → (a ≡ 0 → ⊥) → firstOf a b ≡ a
+first-given zero b h = absurd (h refl)
+first-given (suc a) b h = refl
 
 -- once the plant and the book are accepted: 6 for a bad mask, and for a good one 7 or 0 by the room
 module _ (p : Plant) (mask : ℕ) (room : Bool) where

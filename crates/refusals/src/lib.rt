@@ -1,9 +1,9 @@
 // The numbers that the calls return: that of the first check that fails, or 0 when the call is accepted.
-use format::book::mask_ok;
-use format::book_fault;
 use format::plant::book_long;
 use format::plant_fault;
+use format::word::mask_ok;
 use format::word::number;
+use rows::book_fault;
 ghost use mathlib.Core.Path.{_≡_};
 ghost use Rattle.statements.specs.Plants.{plantOf};
 ghost use Rattle.statements.specs.Calls.{bookRoom, alike, makeFault, withdrawFault, consultFault};

@@ -1,6 +1,6 @@
 // Writing: the bytes of a book, and the list of dropped states.
-use format::book::is_lost;
 use format::word::number;
+use rows::is_lost;
 use solve::solve;
 ghost use mathlib.Core.Path.{_≡_};
 ghost use mathlib.Core.List.{List, _++_};

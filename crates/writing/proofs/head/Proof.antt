@@ -6,8 +6,7 @@ use Prim.Native.Nat.{_*_, _≤_}
 use native.Mathlib.Nat.{mul-le-mul}
 use native.Mathlib.Omega.{arith}
 use Rattle.statements.specs.Plants.{plantOf}
-use Rattle.format.proofs.Faults.{plant-fine}
-use Rattle.format.proofs.Header.{plant-head}
+use Rattle.decoding.proofs.Faults.{plant-ok}
 use Rattle.writing.proofs.Written.{head-stored}
 use borrow.Author.Needs.{needs}
 use Rattle.writing.proofs.head.Statement.{statement}
@@ -31,9 +30,10 @@ cast-high c = search needs
 -- the number of states times that of goals
 few : (c : tie.After-number3)
     → c .before .before .number .result * c .number3 .result ≤ 1024 * 8
+unfolding plantOf
 few c =
     let s = c .before .before .before .before .before in
-    let h = plant-head (now (s .args .plant)) (plant-fine (now (s .args .plant)) (s .pre .0) .head) in
+    let h = plant-ok (now (s .args .plant)) (s .pre .0) in
     let states : c .before .before .number .result ≤ 1024 =
     omega (arith, h .sizes .states-most, c .before .before .number .ensures) in
     let goals : c .number3 .result ≤ 8 = omega (arith, h .sizes .goals-most, c .number3 .ensures) in

@@ -12,7 +12,7 @@ use Rattle.listing.proofs.text.put_head.Statement.{statement}
 use Rattle.listing.proofs.text.put_head.Tie as tie
 use Rattle.listing.proofs.text.put_head.Reads as reads
 use Rattle.listing.proofs.text.put_head.Lts as lts
-use Rattle.format.proofs.book.mask.Reads as mask-reads
+use Rattle.rows.proofs.mask.Reads as mask-reads
 use Rattle.format.proofs.word.number.Reads as number-reads
 use Rattle.listing.proofs.text.put_figure.Reads as put-figure-reads
 

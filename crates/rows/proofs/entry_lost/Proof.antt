@@ -1,0 +1,25 @@
+-- `rows::entry_lost` meets its contract: the two numbers read are the entry's. Assumes nothing.
+use borrow.Author.Needs.{needs}
+use denote.Ref.{now}
+use Rattle.rows.specs.Checks.{lostAt}
+use Rattle.format.proofs.Words.{word-further}
+use Rattle.rows.proofs.entry_lost.Statement.{statement}
+use Rattle.rows.proofs.entry_lost.Tie as tie
+
+word-at-requires : tie.Need-word-at-requires
+word-at-requires c κs = search needs
+
+add-word-at : tie.Need-add-word-at
+add-word-at c = search needs
+
+word-at-requires-2 : tie.Need-word-at-requires-2
+word-at-requires-2 c κs = search needs
+
+returns : tie.Need-returns
+unfolding lostAt
+returns c =
+    let a = c .before .before .before .args in
+    simp (c .before .word-at .ensures, c .word-at2 .ensures, word-further (now (a .book)) (a .at) 1)
+
+pub entry-lost-spec : {M : Type 1} → statement M
+entry-lost-spec = tie.close (tie.spec word-at-requires add-word-at word-at-requires-2 returns)

@@ -1,0 +1,98 @@
+-- `rows::rows_ok` meets its contract: the loop passes the rows one after another, by the laws of `RowsLeft`.
+-- Assumes nothing.
+use mathlib.Core.Path.{sym, ap, _∙_}
+use mathlib.Core.Logic.{⊎-elim}
+use Prim.Native.Nat.{ℕ, _-_}
+use native.Mathlib.Omega.{arith}
+use borrow.Author.Needs.{needs}
+use borrow.Author.Tests.{not-true, not-false}
+use denote.Ref.{now}
+use lib.Dec.{eqb}
+use Rattle.statements.specs.Books.{bookStates, bookCount}
+use Rattle.rows.proofs.Rows.{RowsLeft, rows-start, rows-lost, rows-held, rows-fail, rows-end}
+use Rattle.rows.proofs.rows_ok.Statement.{statement}
+use Rattle.rows.proofs.rows_ok.Tie as tie
+
+abbrev Inv-loop : tie.InvT-loop
+Inv-loop book states kept₀ state₀ kept state = RowsLeft book states kept state
+
+abbrev μ-loop : tie.MeasureT-loop
+μ-loop book states kept₀ state₀ kept state = states - state
+
+number-requires : tie.Need-number-requires Inv-loop μ-loop
+number-requires c κs = search needs
+
+cast-states : tie.Need-cast-states Inv-loop μ-loop
+cast-states c = omega arith
+
+loop-holds : tie.Need-loop-holds Inv-loop μ-loop
+unfolding bookStates
+loop-holds c = rows-start (now (c .before .before .args .book)) _ (c .number .ensures)
+
+is-lost-requires : tie.Need-is-lost-requires Inv-loop μ-loop
+is-lost-requires c κs = search needs
+
+is-held-requires : tie.Need-is-held-requires Inv-loop μ-loop
+is-held-requires c κs = search needs
+
+returns : tie.Need-returns Inv-loop μ-loop
+returns c =
+    let turn = c .before .before .before .before in
+    sym
+    (rows-fail (turn .before .loop .inv) (turn .loop-test .taken)
+    (sym (c .before .before .before .is-lost .ensures) ∙ not-true _ (c .before .before .if1 .taken))
+    (sym (c .before .is-held .ensures) ∙ not-true _ (c .if2 .taken)))
+
+add-kept : tie.Need-add-kept Inv-loop μ-loop
+add-kept c = omega arith
+
+add-state : tie.Need-add-state Inv-loop μ-loop
+add-state c = omega arith
+
+loop-less : tie.Need-loop-less Inv-loop μ-loop
+loop-less c = omega arith
+
+loop-again : tie.Need-loop-again Inv-loop μ-loop
+loop-again c =
+    let turn = c .before .before in
+    let lost = c .before .is-lost .ensures in
+    ⊎-elim
+    (λ w. rw (w .3)
+    (rows-held (turn .before .loop .inv) (turn .loop-test .taken)
+    (sym lost ∙ not-true _ (w .0 .taken))
+    (sym (w .1 .ensures) ∙ not-false _ (w .2 .left))))
+    (λ w. rw (w .1)
+    (rows-lost (turn .before .loop .inv) (turn .loop-test .taken) (sym lost ∙ not-false _ (w .0 .left))))
+    (c .if1 .came)
+
+number-requires-2 : tie.Need-number-requires-2 Inv-loop μ-loop
+number-requires-2 c κs = search needs
+
+cast-result : tie.Need-cast-result Inv-loop μ-loop
+cast-result c = omega arith
+
+returns-2 : tie.Need-returns-2 Inv-loop μ-loop
+unfolding bookCount
+returns-2 c =
+    ap (λ (k : ℕ). eqb k (c .before .before .loop .kept)) (c .number2 .ensures)
+    ∙ sym (rows-end (c .before .before .loop .inv) (c .before .loop-test .left))
+
+pub rows-ok-spec : {M : Type 1} → statement M
+rows-ok-spec =
+    tie.close
+    (tie.spec
+    Inv-loop
+    μ-loop
+    number-requires
+    cast-states
+    loop-holds
+    is-lost-requires
+    is-held-requires
+    returns
+    add-kept
+    add-state
+    loop-less
+    loop-again
+    number-requires-2
+    cast-result
+    returns-2)

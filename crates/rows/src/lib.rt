@@ -1,0 +1,147 @@
+// Books as bytes: the check of one, document 01's answers 4 and 5, and the readers of its header and rows. Nothing here
+// trusts a lent byte: each function has an answer for any slice and any number.
+use format::word::bit_at;
+use format::word::mask_ok;
+use format::word::number;
+use format::word::word_at;
+ghost use mathlib.Core.Path.{_≡_};
+ghost use Prim.Native.Nat.{_+_, _*_, _^_, _<_};
+ghost use Rattle.rows.specs.Checks.{lostAt, heldAt};
+ghost use Rattle.statements.specs.Books.{bookGoals, bookMask, waitAt, moveAt, isLost, isHeld};
+ghost use Rattle.statements.specs.Books.{bookHeadOk, rowsOk, bookFault};
+
+// The moves in service: bit u is move u.
+pub fn mask(book: &[u8]) -> u32
+    ensures { λ r. ⌜ r ≡ bookMask (now (book .entry)) ⌝ }
+{
+    (number(book, 4) as u32) + 65536 * (number(book, 5) as u32)
+}
+
+// The place of the entry of a state and a goal.
+pub fn entry_place(book: &[u8], state: u32, goal: u32) -> usize
+    ensures { λ r. ⌜ r ≡ 16 + 4 * (state * bookGoals (now (book .entry)) + goal) ⌝ }
+{
+    16 + 4 * ((state as usize) * (number(book, 2) as usize) + (goal as usize))
+}
+
+// The wait of a state for a goal.
+pub fn wait_at(book: &[u8], state: u32, goal: u32) -> u16
+    ensures { λ r. ⌜ r ≡ waitAt (now (book .entry)) state goal ⌝ }
+{
+    word_at(book, entry_place(book, state, goal))
+}
+
+// The move listed for a state and a goal.
+pub fn move_at(book: &[u8], state: u32, goal: u32) -> u16
+    ensures { λ r. ⌜ r ≡ moveAt (now (book .entry)) state goal ⌝ }
+{
+    word_at(book, entry_place(book, state, goal) + 2)
+}
+
+// The entry at a place has the mark of a lost state in both places.
+fn entry_lost(book: &[u8], at: usize) -> bool
+    requires { ⌜ at < 2 ^ 60 ⌝ }
+    ensures { λ r. ⌜ r ≡ lostAt (now (book .entry)) at ⌝ }
+{
+    (word_at(book, at) == 65535) & (word_at(book, at + 2) == 65535)
+}
+
+// The entry at a place has a wait of at most 1,023 and a move that the mask has.
+fn entry_held(book: &[u8], at: usize, moves: u16, mask: u32) -> bool
+    requires { ⌜ at < 2 ^ 60 ⌝ }
+    ensures { λ r. ⌜ r ≡ heldAt (now (book .entry)) moves mask at ⌝ }
+{
+    let action = word_at(book, at + 2);
+    (word_at(book, at) <= 1023) & ((action < moves) & bit_at(mask, action as u32))
+}
+
+// A state is lost: both places of every entry of its row have the mark.
+pub fn is_lost(book: &[u8], state: u32) -> bool
+    ensures { λ r. ⌜ r ≡ isLost (now (book .entry)) state ⌝ }
+{
+    let goals = number(book, 2);
+    let mut at = entry_place(book, state, 0);
+    let mut goal: u16 = 0;
+    while goal < goals {
+        if !entry_lost(book, at) {
+            return false;
+        }
+        at += 4;
+        goal += 1;
+    }
+    true
+}
+
+// A state's row has every wait at most 1,023 and every move in the book's mask.
+fn is_held(book: &[u8], state: u32) -> bool
+    ensures { λ r. ⌜ r ≡ isHeld (now (book .entry)) state ⌝ }
+{
+    let goals = number(book, 2);
+    let moves = number(book, 1);
+    let mask = mask(book);
+    let mut at = entry_place(book, state, 0);
+    let mut goal: u16 = 0;
+    while goal < goals {
+        if !entry_held(book, at, moves, mask) {
+            return false;
+        }
+        at += 4;
+        goal += 1;
+    }
+    true
+}
+
+// Every row is wholly lost or held, and as many rows are not lost as the header counts.
+fn rows_ok(book: &[u8]) -> bool
+    ensures { λ r. ⌜ r ≡ rowsOk (now (book .entry)) ⌝ }
+{
+    let states = number(book, 0) as u32;
+    let mut kept: u32 = 0;
+    let mut state: u32 = 0;
+    while state < states {
+        if !is_lost(book, state) {
+            if !is_held(book, state) {
+                return false;
+            }
+            kept += 1;
+        }
+        state += 1;
+    }
+    (number(book, 3) as u32) == kept
+}
+
+// The header is as document 01 says, and the slice is as long as the header says.
+fn head_ok(book: &[u8]) -> bool
+    ensures { λ r. ⌜ r ≡ bookHeadOk (now (book .entry)) ⌝ }
+{
+    if book.len() < 16 {
+        return false;
+    }
+    let s = number(book, 0) as usize;
+    let u = number(book, 1) as u32;
+    let n = number(book, 2) as usize;
+    let rows = number(book, 6);
+    let total = number(book, 7) as usize;
+    (1 <= s)
+        & ((s <= 1024)
+            & ((1 <= u)
+                & ((u <= 32)
+                    & ((1 <= n)
+                        & ((n <= 8)
+                            & ((rows == 16)
+                                & ((total == 16 + 4 * (s * n))
+                                    & (mask_ok(u, mask(book)) & (book.len() == total)))))))))
+}
+
+// What is wrong with a book: 4 its header, 5 a row or the count of kept states; 0 for a book that is accepted.
+pub fn book_fault(book: &[u8]) -> u8
+    ensures { λ r. ⌜ r ≡ bookFault (now (book .entry)) ⌝ }
+{
+    if !head_ok(book) {
+        return 4;
+    }
+    if !rows_ok(book) {
+        return 5;
+    }
+    0
+}
