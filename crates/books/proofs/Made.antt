@@ -15,11 +15,10 @@ use Rattle.statements.specs.Books.{bookBytes, bookLong, bookStates, bookMask, l
 use Rattle.statements.specs.Books.{madeBook, keptBefore, withdrawnBook}
 use Rattle.statements.specs.Calls.{bookRoom, dropRoom, makeFault, withdrawFault}
 use Rattle.sets.proofs.Over.{over-back}
-use Rattle.decoding.proofs.Faults.{make-ok, withdraw-ok}
+use Rattle.decoding.proofs.Faults.{make-ok, withdraw-ok, states-few}
 use Rattle.decoding.proofs.Header.{book-length}
 use Rattle.arrays.specs.Lists.{flagged}
 use Rattle.writing.specs.Written.{writtenLong, writtenBook, droppedCount, writtenDrops}
-pub use Rattle.writing.proofs.Solved.{states-few, entries-few}
 use Rattle.writing.proofs.Solved.{can-write, written}
 use Rattle.writing.proofs.Drops.{room-listed}
 use Rattle.books.specs.Says.{MakeSays, WithdrawSays}

@@ -4,7 +4,8 @@ use mathlib.Core.Path.{_≡_, refl, sym, ap}
 use mathlib.Core.Logic.{_↔_, inl, inr}
 use mathlib.Core.Bool.{Bool, true, false, _&&_, not, true≢false}
 use mathlib.Core.List.{List, [], _∷_}
-use Prim.Native.Nat.{ℕ, zero, suc, _≤_, _<_}
+use Prim.Native.Nat.{ℕ, zero, suc, _*_, _≤_, _<_}
+use native.Mathlib.Nat.{mul-le-mul}
 use native.Mathlib.Omega.{arith}
 use native.Mathlib.Decide.{decLt}
 use lib.Dec.{eqb, ltb, leb}
@@ -65,6 +66,14 @@ plant-ok s h =
       labels-ok = tests .1;
       arrows-ok = tests .2;
     }
+
+-- its states are few, and so are the entries of its books
+module _ (s : List ℕ) (fine : plantFault s ≡ 0) where
+  pub states-few : plantOf s .states ≤ 1024
+  states-few = plant-ok s fine .sizes .states-most
+
+  pub entries-few : plantOf s .states * plantOf s .goals ≤ 1024 * 8
+  entries-few = let z = plant-ok s fine .sizes in mul-le-mul (z .states-most) (z .goals-most)
 
 -- arrows in range start, move and end in range
 pub arrow-range : (arrows : List Arrow) (s u least x v y : ℕ) → arrowsOk s u least arrows ≡ true

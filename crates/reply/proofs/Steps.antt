@@ -13,11 +13,11 @@ use Rattle.statements.specs.Plants.{Plant, firstOf, plantOf, plantFault, allowe
 use Rattle.statements.specs.Books.{bookLong, bookFault, maskOk, lessMask, madeBook, withdrawnBook}
 use Rattle.statements.specs.Calls.{maskFault, bookRoom, dropRoom, alike, withdrawFault, toldOf}
 use Rattle.decoding.proofs.Masks.{less-ok}
-use Rattle.decoding.proofs.Faults.{plant-ok, when-iff, make-told, withdraw-told}
+use Rattle.decoding.proofs.Faults.{plant-ok, when-iff, make-told, withdraw-told, states-few, entries-few}
 use Rattle.demands.proofs.Afresh.{made-alike, made-accepted, withdrawn-afresh}
 use Rattle.books.specs.declared.Answer.{Answer}
 use Rattle.books.specs.Says.{MakeSays, WithdrawSays}
-use Rattle.books.proofs.Made.{states-few, entries-few, within-length}
+use Rattle.books.proofs.Made.{within-length}
 use Rattle.reply.specs.Steps.{Ready, Standing, Stepped}
 
 -- no refusal after the first

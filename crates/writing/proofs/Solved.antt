@@ -4,7 +4,6 @@ use mathlib.Core.Logic.{inl, inr}
 use mathlib.Core.Bool.{true, false}
 use mathlib.Core.List.{List, _++_}
 use Prim.Native.Nat.{ℕ, _+_, _*_, _≤_, _<_}
-use native.Mathlib.Nat.{mul-le-mul}
 use native.Mathlib.Omega.{arith}
 use lib.Dec.{eqb, leb}
 use lib.ListN.{length, take, drop}
@@ -18,20 +17,11 @@ use Rattle.sets.proofs.Members.{length-numbers}
 use Rattle.sets.proofs.Iterate.{sifted-length}
 use Rattle.sets.proofs.Over.{over-back}
 use Rattle.kept.proofs.Kept.{kept-sifted}
-use Rattle.decoding.proofs.Faults.{plant-ok}
+use Rattle.decoding.proofs.Faults.{states-few, entries-few}
 use Rattle.solve.specs.Rows.{rowNumbers, solvable, flagged, solvedCount, solvedRows}
 use Rattle.solve.proofs.RoundsSolved.{not-solved, solved}
 use Rattle.writing.specs.Written.{writable, writtenLong, writtenBook}
 use Rattle.writing.proofs.Written.{rows-count, book-written}
-
-module _ (s : List ℕ) (fine : plantFault s ≡ 0) where
-  -- an accepted plant has few states
-  pub states-few : plantOf s .states ≤ 1024
-  states-few = plant-ok s fine .sizes .states-most
-
-  -- and few entries
-  pub entries-few : plantOf s .states * plantOf s .goals ≤ 1024 * 8
-  entries-few = let z = plant-ok s fine .sizes in mul-le-mul (z .states-most) (z .goals-most)
 
 -- what the solver returns, and the entries that it leaves
 module _ (s : List ℕ) (mask : ℕ) (start entries : List ℕ) where

@@ -5,8 +5,7 @@ use mathlib.Core.Path.{_≡_, sym, _∙_}
 use native.Mathlib.Omega.{arith}
 use lib.ListN.{length}
 use Rattle.statements.specs.Calls.{makeFault}
-use Rattle.decoding.proofs.Faults.{MakeOk, make-ok}
-use Rattle.writing.proofs.Solved.{states-few}
+use Rattle.decoding.proofs.Faults.{MakeOk, make-ok, states-few}
 use Rattle.books.proofs.Made.{make-refused, make-done}
 use Rattle.books.proofs.Traces.{demands}
 use borrow.Author.Needs.{needs}

@@ -10,8 +10,8 @@ use lib.Seq.{length-take-le}
 use lib.Bits.{and-le-l}
 use Rattle.statements.specs.Plants.{plantOf}
 use Rattle.statements.specs.Calls.{withdrawFault}
-use Rattle.decoding.proofs.Faults.{WithdrawOk, withdraw-ok}
-use Rattle.writing.proofs.Solved.{states-few, written-fits}
+use Rattle.decoding.proofs.Faults.{WithdrawOk, withdraw-ok, states-few}
+use Rattle.writing.proofs.Solved.{written-fits}
 use Rattle.books.proofs.Made.{withdraw-refused, withdraw-done}
 use Rattle.books.proofs.Traces.{demands}
 use borrow.Author.Needs.{needs}

@@ -10,10 +10,11 @@ use lib.ListN.{length, take, replicate}
 use lib.Seq.{length-take-le}
 use Rattle.statements.specs.Plants.{plantOf, plantFault}
 use Rattle.statements.specs.Books.{bookLong}
+use Rattle.decoding.proofs.Faults.{entries-few}
 use Rattle.format.proofs.Words.{product-below}
 use Rattle.solve.specs.Rows.{solvable}
 use Rattle.solve.proofs.RoundsSolved.{filled}
-use Rattle.writing.proofs.Solved.{entries-few, has-solved, solved-fine, solved-most, short-unwritable}
+use Rattle.writing.proofs.Solved.{has-solved, solved-fine, solved-most, short-unwritable}
 use Rattle.writing.proofs.Solved.{mark-unwritable, not-written, book-done}
 use borrow.Author.Needs.{needs}
 use Rattle.writing.proofs.book.Statement.{statement}
