@@ -37,7 +37,8 @@ pub fn mark(listed: &[u16], to: &mut [u16])
 // Lists the places with flag 1 among the first `states`, rising; returns how many.
 pub fn flags(start: &[u8], states: usize, all: &mut [u16]) -> usize
     ensures count { λ r. ⌜ r ≡ length (flagList (now (start .entry)) states (now (all .entry))) ⌝ }
-    ensures list { λ _. ⌜ now (all .exit) ≡ over (flagList (now (start .entry)) states (now (all .entry))) (now (all .entry)) ⌝ }
+    ensures list { λ _. ⌜ now (all .exit)
+        ≡ over (flagList (now (start .entry)) states (now (all .entry))) (now (all .entry)) ⌝ }
 {
     let fits = (states <= start.len()) & ((states <= all.len()) & (states <= 65536));
     if !fits {
@@ -64,7 +65,8 @@ pub fn store(
     goal: usize,
     entries: &mut [u16],
 )
-    ensures { λ _. ⌜ now (entries .exit) ≡ stored (now (waits .entry)) (now (listed .entry)) states goals goal (now (entries .entry)) ⌝ }
+    ensures { λ _. ⌜ now (entries .exit)
+        ≡ stored (now (waits .entry)) (now (listed .entry)) states goals goal (now (entries .entry)) ⌝ }
 {
     let small = (states <= 65536) & ((goals <= 65536) & (goal < goals));
     if !small {
@@ -107,7 +109,8 @@ fn stay(entries: &[u16], goals: usize, state: u16) -> bool
 // Keeps those of the first `count` states of a list that have a wait for each goal, at its front; returns how many.
 pub fn cut(list: &mut [u16], count: usize, goals: usize, entries: &[u16]) -> usize
     ensures count { λ r. ⌜ r ≡ length (stayList (now (entries .entry)) goals count (now (list .entry))) ⌝ }
-    ensures list { λ _. ⌜ now (list .exit) ≡ over (stayList (now (entries .entry)) goals count (now (list .entry))) (now (list .entry)) ⌝ }
+    ensures list { λ _. ⌜ now (list .exit)
+        ≡ over (stayList (now (entries .entry)) goals count (now (list .entry))) (now (list .entry)) ⌝ }
 {
     let fits = (count <= list.len()) & (goals <= 65536);
     if !fits {

@@ -67,7 +67,8 @@ pub extern "C" fn planbook_withdraw(
     out: &mut [u8],
     drops: &mut [u8],
 ) -> Answer
-    ensures { λ r. ⌜ WithdrawSays (now (plant .entry)) (now (book .entry)) mask (now (out .entry)) (now (out .exit)) (now (drops .entry)) (now (drops .exit)) (plain r) ⌝ }
+    ensures { λ r. ⌜ WithdrawSays (now (plant .entry)) (now (book .entry)) mask
+        (now (out .entry)) (now (out .exit)) (now (drops .entry)) (now (drops .exit)) (plain r) ⌝ }
 {
     flat(books::withdraw_moves(plant, book, mask, out, drops))
 }

@@ -6,7 +6,8 @@ use Rattle.statements.specs.Plants.{plantFault, allowed, inGoal, endsIn,
 use Rattle.statements.specs.Plants.{can}
 use Rattle.statements.specs.Kept.{grown, target, forced, forcedAll, keptRound, keptWithin, level, waitOf}
 use Rattle.statements.specs.Kept.{nearer, listedMove}
-use Rattle.statements.specs.Books.{two, bytesOf, bookLong, entryOf, rowOf, headOf, bookBytes, bookStates, bookMoves}
+use Rattle.statements.specs.Books.{two, bytesOf, bookLong, entryOf, rowOf, headOf, bookBytes, bookStates}
+use Rattle.statements.specs.Books.{bookMoves}
 use Rattle.statements.specs.Books.{bookGoals, bookCount, bookMask, waitAt, moveAt, isLost, isHeld, bookKept}
 use Rattle.statements.specs.Books.{maskOk, bookHeadOk, rowsOk, bookFault, nextGoal, lessMask, bookWithin}
 use Rattle.statements.specs.Books.{madeBook, keptBefore, withdrawnBook, droppedStates}
