@@ -2,14 +2,13 @@
 use mathlib.Core.Path.{_≡_, refl, ap, _∙_}
 use mathlib.Core.Bool.{Bool, true, false}
 use mathlib.Core.List.{List, [], _∷_, _++_, append-nil}
-use Prim.Native.Nat.{ℕ, zero, suc, _+_, _≤_, _<_}
-use native.Mathlib.Nat.{add-zero, zero-add}
+use Prim.Native.Nat.{ℕ, _+_, _≤_, _<_}
 use native.Mathlib.Numerals.{add-one}
 use native.Mathlib.Omega.{arith}
 use lib.ListN.{length, getD, take, set, length-append}
 use lib.Seq.{take-suc, length-take-le}
-use Rattle.statements.specs.Sets.{numbers, consIf, filter, over}
-use Rattle.sets.proofs.Members.{filter-length}
+use Rattle.statements.specs.Sets.{filter, over}
+use Rattle.sets.proofs.Members.{filter-length, filter-snoc}
 use Rattle.sets.proofs.Over.{over-none, over-length, over-back, over-at, over-one}
 
 -- what a loop that writes a front leaves
@@ -27,28 +26,6 @@ copy-more from old new k h room e =
     let more = over-one (take k from) old (getD from k 0) (omega arith) in
     rw (e, add-one, take-suc from k 0 h) (rw n at more)
 
--- a filter of a list with one number more
-pub filter-snoc : (f : ℕ → Bool) (xs : List ℕ) (x : ℕ) → filter f (xs ++ (x ∷ [])) ≡ filter f xs ++ consIf (f x) x []
-unfolding filter
-filter-snoc f [] x = refl
-filter-snoc f (y ∷ ys) x = rw (filter-snoc f ys x) (later (f y))
-  where
-    later : (b : Bool) → consIf b y (filter f ys ++ consIf (f x) x []) ≡ consIf b y (filter f ys) ++ consIf (f x) x []
-    later true = refl
-    later false = refl
-
--- the numbers of a range with one more
-pub numbers-snoc : (n x : ℕ) → numbers (suc n) x ≡ numbers n x ++ ((x + n) ∷ [])
-unfolding numbers
-numbers-snoc zero x = rw add-zero
-numbers-snoc (suc n) x =
-    let next : suc x + n ≡ x + suc n = omega arith in
-    ap (λ (l : List ℕ). x ∷ l) (numbers-snoc n (suc x) ∙ rw next)
-
--- the same as a loop counts
-pub numbers-more : (n : ℕ) → numbers (n + 1) 0 ≡ numbers n 0 ++ (n ∷ [])
-numbers-more n = rw (add-one n, numbers-snoc n 0, zero-add)
-
 -- the front of a list is what passes a test of a list read so far
 pub record Sieved (f : ℕ → Bool) (xs old new : List ℕ) (left : ℕ) : Type 0 where
   pub new-is : new ≡ over (filter f xs) old
@@ -60,15 +37,6 @@ unfolding filter
 sieve-none f old = record { new-is = over-none old; left-is = refl }
 
 module _ (f : ℕ → Bool) (xs old new : List ℕ) (left x : ℕ) (so-far : Sieved f xs old new left) where
-  -- no more pass than were read
-  pub sieve-few : left ≤ length xs
-  sieve-few = omega (arith, so-far .left-is, filter-length f xs)
-
-  -- the list is as long as it was
-  pub sieve-long : length xs ≤ length old → length new ≡ length old
-  sieve-long h =
-      ap length (so-far .new-is) ∙ over-length (filter f xs) old (omega (arith, filter-length f xs))
-
   -- what was not read is as it was
   pub sieve-at : (k : ℕ) → length xs ≤ k → getD new k 0 ≡ getD old k 0
   sieve-at k h = rw (so-far .new-is) (over-at (filter f xs) old k (omega (arith, filter-length f xs)))

@@ -47,9 +47,6 @@ less-bit u a b h =
     let both : bit u a && not (bit u b) ≡ true = sym (less-is u a b) ∙ h in
     (and-left (bit u a) (not (bit u b)) both, not-true (bit u b) (and-right (bit u a) (not (bit u b)) both))
 
-pub bit-less : (u a b : ℕ) → bit u a ≡ true → bit u b ≡ false → bit u (lessMask a b) ≡ true
-bit-less u a b h g = rw (less-is, h, g)
-
 -- a mask of moves below u stays one
 pub less-ok : (u a b : ℕ) → maskOk u a ≡ true → maskOk u (lessMask a b) ≡ true
 unfolding maskOk lessMask

@@ -8,7 +8,7 @@ use Prim.Native.Nat.{ℕ, _≤_, _<_}
 use Rattle.statements.specs.Sets.{isIn}
 use Rattle.statements.specs.Plants.{Plant, ends}
 use Rattle.statements.specs.Kept.{keptWithin, nearer}
-use Rattle.statements.specs.Books.{waitAt, moveAt, bookKept, bookFault, bookWithin}
+use Rattle.statements.specs.Books.{waitAt, moveAt, bookFault, bookWithin}
 use Rattle.statements.specs.Strategies.{Wins, Forces, following}
 use Rattle.statements.specs.Demands.{Lowest, IsBook, Right}
 use Rattle.sets.proofs.Tests.{not-both}
@@ -20,17 +20,12 @@ use Rattle.winning.proofs.Following.{follows}
 use Rattle.decoding.proofs.Header.{book-length, read-states, read-moves, read-goals, read-mask, read-rows-at}
 use Rattle.decoding.proofs.Header.{read-total}
 use Rattle.decoding.proofs.Bytes.{book-bytes}
-use Rattle.decoding.proofs.Accepted.{book-kept, book-count, book-accepted}
+use Rattle.decoding.proofs.Accepted.{book-count, book-accepted}
 use Rattle.demands.proofs.Plants.{Given, some-goal, given-fits}
 use Rattle.demands.proofs.Winners.{Within, IsKept, lost-kept, book-wait, book-least, guides, winners, waits}
 use Rattle.demands.proofs.Same.{one-book}
 
 module _ {p : Plant} {mask : ℕ} {within : ℕ → Bool} (given : Given p mask within) where
-  -- the states that the book keeps
-  pub kept-read : bookKept (bookWithin p mask within) ≡ keptWithin p mask within
-  unfolding bookWithin
-  kept-read = book-kept p mask (keptWithin p mask within) (given-fits given)
-
   -- the calls accept it
   pub accepted : bookFault (bookWithin p mask within) ≡ 0
   unfolding bookWithin

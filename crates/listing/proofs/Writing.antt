@@ -6,19 +6,12 @@ use Prim.Native.Nat.{ℕ, suc, _+_, _-_, _≤_, _<_}
 use native.Mathlib.Nat.{add-zero, zero-add, sub-zero}
 use native.Mathlib.Numerals.{add-one}
 use native.Mathlib.Omega.{arith}
-use lib.ListN.{length, getD, drop, set, length-append}
+use lib.ListN.{length, getD, drop, length-append}
 use lib.Seq.{sets, sets-eq, length-sets, drop-cons}
 use borrow.Author.Tests.{le-leb, lt-leb}
 use Rattle.statements.specs.Sets.{joined, over}
+use Rattle.sets.proofs.Over.{sets-append}
 use Rattle.listing.specs.Buffers.{hasRoom, placed, placedLong, Wrote}
-
--- two texts, the second at the place after the first
-pub sets-append : (o : List ℕ) (at : ℕ) (xs ys : List ℕ)
-    → sets o at (xs ++ ys) ≡ sets (sets o at xs) (at + length xs) ys
-sets-append o at [] ys = rw add-zero
-sets-append o at (x ∷ xs) ys =
-    let k : suc at + length xs ≡ at + suc (length xs) = omega arith in
-    sets-append (set o at x) (suc at) xs ys ∙ rw k
 
 -- of a whole text put at a place, some is left, to be put at the next place of the buffer as it is now
 pub record Left (before : List ℕ) (at : ℕ) (whole rest : List ℕ) (next : ℕ) (now : List ℕ) : Type 0 where
@@ -43,7 +36,7 @@ module _ {o : List ℕ} {at : ℕ} {whole rest : List ℕ} {next : ℕ} {now : L
       record {
         place = omega (arith, l .place, w .place, ap length e, length-append xs ys);
         bytes =
-            l .bytes ∙ ap (sets now next) e ∙ sets-append now next xs ys
+            l .bytes ∙ ap (sets now next) e ∙ sym (sets-append now next xs ys)
             ∙ rw (w .bytes, w .place);
         same = ap length (w .bytes) ∙ length-sets now next xs ∙ l .same;
       }

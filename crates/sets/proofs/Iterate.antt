@@ -1,23 +1,16 @@
 -- A function on sets applied again and again: growing within a finite set, or shrinking, it stands still after as many
 -- steps as that set has members. Assumes nothing.
-use mathlib.Core.Path.{_≡_, refl, sym, _∙_, ap}
+use mathlib.Core.Path.{_≡_, sym, _∙_, ap}
 use mathlib.Core.Logic.{_⊎_, inl, inr, ⊎-elim}
 use mathlib.Core.Bool.{true}
 use mathlib.Core.List.{List}
-use Prim.Native.Nat.{ℕ, zero, suc, _+_, _≤_}
+use Prim.Native.Nat.{ℕ, zero, suc, _+_, _≤_, _<_}
 use native.Mathlib.Omega.{arith}
 use lib.ListN.{length}
-use Rattle.statements.specs.Sets.{iterate, isIn}
+use Rattle.statements.specs.Sets.{numbers, iterate, isIn}
 use Rattle.sets.proofs.Tests.{same-number}
 use Rattle.sets.proofs.Members.{Sifted, filter-longer, filter-as-long, filter-length}
-
-pub iterate-zero : (f : List ℕ → List ℕ) (xs : List ℕ) → iterate 0 f xs ≡ xs
-unfolding iterate
-iterate-zero f xs = refl
-
-pub iterate-suc : (n : ℕ) (f : List ℕ → List ℕ) (xs : List ℕ) → iterate (suc n) f xs ≡ f (iterate n f xs)
-unfolding iterate
-iterate-suc n f xs = refl
+use Rattle.sets.proofs.Members.{sifted-member, length-numbers, numbers-holds}
 
 -- once a step changes nothing no later one does
 pub iterate-still : (n m : ℕ) (f : List ℕ → List ℕ) (xs : List ℕ) → f (iterate n f xs) ≡ iterate n f xs → n ≤ m →
@@ -52,6 +45,13 @@ sifted-as-long all ys zs s t h l =
 
 pub sifted-length : (all ys : List ℕ) → Sifted all ys → length ys ≤ length all
 sifted-length all ys s = omega (arith, ap length s, filter-length (λ x. isIn x ys) all)
+
+-- a set of numbers below n has at most n members, and each is below n
+pub sifted-few : (n : ℕ) (ys : List ℕ) → Sifted (numbers n 0) ys → length ys ≤ n
+sifted-few n ys s = omega (arith, sifted-length (numbers n 0) ys s, length-numbers n 0)
+
+pub sifted-below : (n : ℕ) (ys : List ℕ) → Sifted (numbers n 0) ys → (x : ℕ) → isIn x ys ≡ true → x < n
+sifted-below n ys s x m = omega (arith, numbers-holds n 0 x (sifted-member (numbers n 0) ys s x m))
 
 module _ (all start : List ℕ) (f : List ℕ → List ℕ) (begins : Sifted all start)
     (sifts : (ys : List ℕ) → Sifted all ys → Sifted all (f ys)) where

@@ -3,8 +3,10 @@
 use mathlib.Core.Path.{_≡_, refl, sym, _∙_, ap}
 use mathlib.Core.Logic.{_⊎_, inl, inr, ⊎-elim}
 use mathlib.Core.Bool.{Bool, true, false, _&&_}
-use mathlib.Core.List.{List, [], _∷_}
+use mathlib.Core.List.{List, [], _∷_, _++_}
 use Prim.Native.Nat.{ℕ, zero, suc, _+_, _≤_, _<_}
+use native.Mathlib.Nat.{add-zero, zero-add}
+use native.Mathlib.Numerals.{add-one}
 use native.Mathlib.Omega.{arith}
 use lib.Dec.{eqb}
 use lib.ListN.{length}
@@ -205,3 +207,29 @@ numbers-in (suc n) x k l h =
     (λ e. rw e (isIn-here x (numbers n (suc x))))
     (λ d. isIn-there k x (numbers n (suc x)) (numbers-in n (suc x) k (omega arith) (omega arith)))
     (same-number k x)
+
+-- the numbers of a range with one more, and the same as a loop counts
+pub numbers-snoc : (n x : ℕ) → numbers (suc n) x ≡ numbers n x ++ ((x + n) ∷ [])
+unfolding numbers
+numbers-snoc zero x = rw add-zero
+numbers-snoc (suc n) x =
+    let next : suc x + n ≡ x + suc n = omega arith in
+    ap (λ (ys : List ℕ). x ∷ ys) (numbers-snoc n (suc x) ∙ rw next)
+
+pub numbers-more : (n : ℕ) → numbers (n + 1) 0 ≡ numbers n 0 ++ (n ∷ [])
+numbers-more n = rw (add-one n, numbers-snoc n 0, zero-add)
+
+-- a filter of two lists, one after the other, and of a list with one number more
+consIf-append : (b : Bool) (x : ℕ) (xs ys : List ℕ) → consIf b x (xs ++ ys) ≡ consIf b x xs ++ ys
+consIf-append true x xs ys = refl
+consIf-append false x xs ys = refl
+
+filter-append : (f : ℕ → Bool) (xs ys : List ℕ) → filter f (xs ++ ys) ≡ filter f xs ++ filter f ys
+unfolding filter
+filter-append f [] ys = refl
+filter-append f (x ∷ xs) ys =
+    ap (consIf (f x) x) (filter-append f xs ys) ∙ consIf-append (f x) x (filter f xs) (filter f ys)
+
+pub filter-snoc : (f : ℕ → Bool) (xs : List ℕ) (x : ℕ) → filter f (xs ++ (x ∷ [])) ≡ filter f xs ++ consIf (f x) x []
+unfolding filter
+filter-snoc f xs x = filter-append f xs (x ∷ [])

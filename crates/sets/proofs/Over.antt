@@ -1,11 +1,12 @@
--- Numbers written over the first of a list. Assumes nothing.
+-- Numbers written over the first of a list, and stored one after another from a place on. Assumes nothing.
 use mathlib.Core.Path.{_≡_, refl, sym, ap, _∙_}
 use mathlib.Core.List.{List, [], _∷_, _++_, append-assoc}
 use Prim.Native.Nat.{ℕ, suc, _+_, _-_, _≤_, _<_}
+use native.Mathlib.Nat.{add-zero, zero-add}
 use native.Mathlib.Numerals.{add-one}
 use native.Mathlib.Omega.{arith}
 use lib.ListN.{length, getD, take, drop, set, length-append, length-drop}
-use lib.Seq.{sets, sets-eq, set-at, take-append-seam, drop-append-add, drop-drop, drop-cons, append-snoc}
+use lib.Seq.{sets, sets-eq, set-at, set-comm, take-append-seam, drop-append-add, drop-drop, drop-cons, append-snoc}
 use lib.Seq.{getD-append-add, getD-drop}
 use Rattle.statements.specs.Sets.{over}
 
@@ -58,3 +59,26 @@ pub over-after : (xs ys old : List ℕ) {new : List ℕ} → new ≡ over xs old
 unfolding over
 over-after xs ys old e =
     rw (e, take-append-seam xs, drop-append-add xs, drop-drop, length-append, append-assoc)
+
+-- stored after others
+pub sets-append : (l : List ℕ) (at : ℕ) (xs ys : List ℕ)
+    → sets (sets l at xs) (at + length xs) ys ≡ sets l at (xs ++ ys)
+sets-append l at [] ys = rw add-zero
+sets-append l at (x ∷ xs) ys =
+    let there : at + length (x ∷ xs) ≡ suc at + length xs = omega arith in
+    rw there (sets-append (set l at x) (suc at) xs ys)
+
+-- a number stored before them
+pub sets-before : (l : List ℕ) (at : ℕ) (xs : List ℕ) (i v : ℕ) → i < at
+    → set (sets l at xs) i v ≡ sets (set l i v) at xs
+sets-before l at [] i v h = refl
+sets-before l at (x ∷ xs) i v h =
+    sets-before (set l at x) (suc at) xs i v (omega arith)
+    ∙ ap (λ (k : List ℕ). sets k (suc at) xs) (set-comm l at i x v (λ e. omega arith))
+
+-- stored from the first place on
+pub sets-over : (xs l : List ℕ) → length xs ≤ length l → sets l 0 xs ≡ over xs l
+unfolding over
+sets-over xs l h =
+    let fits : 0 + length xs ≤ length l = omega arith in
+    rw zero-add at (sets-eq xs l 0 fits)

@@ -29,6 +29,11 @@ pub and-right : (a b : Bool) → (a && b) ≡ true → b ≡ true
 and-right true b e = e
 and-right false b e = absurd (true≢false (sym e))
 
+-- a conjunction fails when its second part does
+pub and-none : (a b : Bool) → b ≡ false → (a && b) ≡ false
+and-none true b e = e
+and-none false b e = refl
+
 -- a conjunction of tests holds when both do
 pub and-iff : (a b : Bool) → (a && b ≡ true) ↔ ((a ≡ true) × (b ≡ true))
 and-iff a b = (λ h. (and-left a b h, and-right a b h), λ h. and-true (h .0) (h .1))

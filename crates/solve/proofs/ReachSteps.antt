@@ -18,9 +18,9 @@ use Rattle.sets.proofs.Tests.{decided, same-number, not-both, and-true, and-lef
 use Rattle.sets.proofs.Members.{Sifted, isIn-none, filter-holds, filter-in, filter-test, filter-same, filter-filter}
 use Rattle.sets.proofs.Members.{sifted-filter, sifted-member, sifted-same, sifted-sub}
 use Rattle.sets.proofs.Members.{filter-longer, filter-as-long, filter-length}
-use Rattle.sets.proofs.Members.{length-numbers, numbers-holds}
+use Rattle.sets.proofs.Members.{numbers-holds}
 use Rattle.sets.proofs.First.{first-range, first-holds, first-least}
-use Rattle.sets.proofs.Iterate.{iterate-still, sifted-length}
+use Rattle.sets.proofs.Iterate.{iterate-still, sifted-few, sifted-below}
 use Rattle.kept.proofs.Moves.{Sub, available-end, into-available, into-ends, can-move}
 use Rattle.kept.proofs.Reach.{steps-sifted, steps-later}
 use Rattle.solve.specs.Given.{below}
@@ -320,15 +320,6 @@ module _ (p : Plant) (mask : ℕ) (all : List ℕ) (i : ℕ) where
   start-rest = filter-all (λ x. not (isIn x [])) all (λ x. refl)
 
   module _ (inside : Sifted (numbers (p .states) 0) all) where
-    -- the states of the set are the plant's
-    in-range : (x : ℕ) → isIn x all ≡ true → x < p .states
-    in-range x m =
-        let r = numbers-holds (p .states) 0 x (sifted-member (numbers (p .states) 0) all inside x m) in
-        omega arith
-
-    pub few-states : length all ≤ p .states
-    few-states = omega (arith, sifted-length (numbers (p .states) 0) all inside, length-numbers (p .states) 0)
-
     -- an array of marks stands for the set
     marked : (member : List ℕ) → p .states ≤ 1024 → Marks all member → below member 1 (p .states) ≡ all
     unfolding below
@@ -428,9 +419,9 @@ module _ (p : Plant) (mask : ℕ) (all : List ℕ) (i : ℕ) where
         → (isIn x all ≡ true) × (not (isIn x (fewer p mask all i n)) ≡ true)
         = λ x m. filter-holds (λ y. not (isIn y (fewer p mask all i n))) all x (rw (r .rest-is) at m) in
         record {
-          state = λ x m. in-range x (out x m .0);
+          state = λ x m. sifted-below (p .states) all inside x (out x m .0);
           wait = λ x m.
-              let w = r .arrays .wait-is x (in-range x (out x m .0)) in
+              let w = r .arrays .wait-is x (sifted-below (p .states) all inside x (out x m .0)) in
               let v = rw (not-true (isIn x (fewer p mask all i n)) (out x m .1)) at w in
               omega arith;
         }
@@ -530,7 +521,7 @@ module _ (p : Plant) (mask : ℕ) (all : List ℕ) (i : ℕ) where
       (g : Going p mask all i steps before waits listed rest count) where
     -- a step fits its type, and the states left are open
     pub going-steps : steps ≤ 1025
-    going-steps = omega (arith, g .few, few-states inside)
+    going-steps = omega (arith, g .few, sifted-few (p .states) all inside)
 
     pub going-open : Open (take count rest) (p .states) steps waits
     going-open = open-rest inside steps count waits listed rest (omega (arith, going-steps)) (g .stepped)
@@ -540,7 +531,7 @@ module _ (p : Plant) (mask : ℕ) (all : List ℕ) (i : ℕ) where
     unfolding without
     going-room =
         let left = filter-length (λ x. not (isIn x (fewer p mask all i steps))) all in
-        let few = few-states inside in (
+        let few = sifted-few (p .states) all inside in (
           omega (arith, g .waits-long),
           omega (arith, g .listed-long),
           omega (arith, g .stepped .count-is, g .rest-long),

@@ -16,7 +16,7 @@ use borrow.Author.Tests.{lt-ltb, le-ltb, ne-eqb}
 use Rattle.statements.specs.Sets.{pick, consIf, numbers, isIn, filter}
 use Rattle.sets.proofs.Tests.{same-number, and-left}
 use Rattle.sets.proofs.Members.{isIn-here, isIn-there, isIn-cases, isIn-none, filter-same, filter-length}
-use Rattle.arrays.proofs.Sieves.{filter-snoc}
+use Rattle.sets.proofs.Members.{filter-snoc}
 use Rattle.solve.specs.Given.{below}
 use Rattle.solve.specs.Reaching.{without, Written, Swept, Open}
 

@@ -11,10 +11,9 @@ use Rattle.statements.specs.Sets.{numbers, iterate, filter}
 use Rattle.statements.specs.Plants.{Plant}
 use Rattle.statements.specs.Kept.{forcedAll, keptRound, keptWithin}
 use Rattle.sets.proofs.Members.{Sifted, sifted-filter}
-use Rattle.sets.proofs.Iterate.{sifted-as-long, sifted-longer, iterate-still, shrunk-full}
+use Rattle.sets.proofs.Iterate.{sifted-as-long, sifted-longer, sifted-few, iterate-still, shrunk-full}
 use Rattle.kept.proofs.Kept.{forcedAll-holds, forcedAll-sifted}
 use Rattle.solve.specs.Rows.{keptFrom, Columns}
-use Rattle.solve.proofs.RoundsSets.{set-length}
 
 -- a step before the others or after them
 iterate-inside : (n : ℕ) (f : List ℕ → List ℕ) (xs : List ℕ) → iterate n f (f xs) ≡ f (iterate n f xs)
@@ -40,7 +39,7 @@ module _ (p : Plant) (mask : ℕ) (all : List ℕ) (set : Sifted (numbers (p .st
       iterate-inside (p .states) (forcedAll (p .goals) p mask) all
       ∙ shrunk-full (numbers (p .states) 0) all (forcedAll (p .goals) p mask) set
       (λ ys s. forcedAll-sifted (p .goals) p mask (numbers (p .states) 0) ys s)
-      (λ ys x m. forcedAll-holds (p .goals) p mask ys x m .0) (p .states) (set-length p mask all set small)
+      (λ ys x m. forcedAll-holds (p .goals) p mask ys x m .0) (p .states) (sifted-few (p .states) all set)
 
   -- and where it is as long, the set is kept
   pub round-still : length all ≤ length (forcedAll (p .goals) p mask all) → keptFrom p mask all ≡ all

@@ -16,11 +16,11 @@ use Rattle.statements.specs.Plants.{Plant}
 use Rattle.statements.specs.Kept.{forced, forcedAll}
 use Rattle.statements.specs.Books.{lostMark}
 use Rattle.sets.proofs.Tests.{same-number, and-right}
-use Rattle.sets.proofs.Members.{Sifted, sifted-member, sifted-same, sifted-sub, filter-holds, filter-in}
-use Rattle.sets.proofs.Members.{length-numbers, numbers-holds, filter-length}
+use Rattle.sets.proofs.Members.{Sifted, sifted-same, sifted-sub, filter-holds, filter-in}
+use Rattle.sets.proofs.Members.{length-numbers, filter-length}
 use Rattle.sets.proofs.Numbers.{every-at}
 use Rattle.sets.proofs.First.{first-range}
-use Rattle.sets.proofs.Iterate.{sifted-length, sifted-longer}
+use Rattle.sets.proofs.Iterate.{sifted-longer, sifted-few, sifted-below}
 use Rattle.kept.proofs.Kept.{forcedAll-holds, forcedAll-in, forcedAll-sifted}
 use Rattle.arrays.specs.Lists.{fitting, zeroed, flagList, column, stored, stays, stayList}
 use Rattle.arrays.proofs.Sieves.{over-done}
@@ -63,21 +63,13 @@ picked-yes false s h = absurd (h refl)
 
 module _ (p : Plant) (mask : ℕ) (all : List ℕ) (set : Sifted (numbers (p .states) 0) all)
     (small : p .states ≤ 1024) where
-  -- a set of states has no more members than there are states, and each is in range
-  pub set-length : length all ≤ p .states
-  set-length = omega (arith, sifted-length (numbers (p .states) 0) all set, length-numbers (p .states) 0)
-
-  pub set-below : (x : ℕ) → isIn x all ≡ true → x < p .states
-  set-below x m =
-      omega (arith, numbers-holds (p .states) 0 x (sifted-member (numbers (p .states) 0) all set x m))
-
   -- a state from which a goal is forced has a wait, and only such a state
   has-wait : (i x : ℕ) → isIn x (forced p mask all i) ≡ true → reached p mask all i x ≡ lostMark → ⊥
   unfolding reached stepOf
   has-wait i x m e =
       let steps = first-range (length all) 0 (λ n. isIn x (within p mask all i n)) in
       let is : stepOf p mask all i x ≡ lostMark = rw m at e in
-      omega (arith, set-length)
+      omega (arith, sifted-few (p .states) all set)
 
   wait-forced : (i x : ℕ) → (reached p mask all i x ≡ lostMark → ⊥) → isIn x (forced p mask all i) ≡ true
   unfolding reached
@@ -117,10 +109,10 @@ module _ (p : Plant) (mask : ℕ) (all : List ℕ) (set : Sifted (numbers (p .st
         (forcedAll-sifted (p .goals) p mask (numbers (p .states) 0) all set)
         (λ x m.
         let h = filter-holds (stays entries (p .goals)) all x m in
-        forcedAll-in (p .goals) p mask all x (h .0) (stays-forced x (set-below x (h .0)) (h .1)))
+        forcedAll-in (p .goals) p mask all x (h .0) (stays-forced x (sifted-below (p .states) all set x (h .0)) (h .1)))
         (λ x m.
         let h = forcedAll-holds (p .goals) p mask all x m in
-        filter-in (stays entries (p .goals)) all x (h .0) (forced-stays x (set-below x (h .0)) (h .1)))
+        filter-in (stays entries (p .goals)) all x (h .0) (forced-stays x (sifted-below (p .states) all set x (h .0)) (h .1)))
 
   module _ (i : ℕ) (waits listed : List ℕ) (is : Column p mask all i waits listed) (old : List ℕ) (few : p .goals ≤ 8)
       (more : i < p .goals) (in-waits : p .states ≤ length waits) (in-listed : p .states ≤ length listed)

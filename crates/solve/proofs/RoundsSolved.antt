@@ -12,7 +12,8 @@ use borrow.Author.Tests.{eqb-true, le-leb, lt-leb, ltb-true, ltb-false}
 use Rattle.statements.specs.Sets.{numbers, over}
 use Rattle.statements.specs.Plants.{Plant, word, plantOf, plantFault}
 use Rattle.statements.specs.Kept.{keptWithin}
-use Rattle.sets.proofs.Tests.{decided, and-left}
+use Rattle.sets.proofs.Tests.{decided, and-left, and-none}
+use Rattle.sets.proofs.Iterate.{sifted-few}
 use Rattle.sets.proofs.Members.{Sifted}
 use Rattle.kept.proofs.Kept.{kept-sifted}
 use Rattle.decoding.proofs.Faults.{PlantOk}
@@ -22,7 +23,7 @@ use Rattle.tables.proofs.Loading.{table-loaded}
 use Rattle.solve.specs.Given.{Given}
 use Rattle.solve.specs.Rows.{Columns, keptFrom, solvable, flagged, writtenRows, solvedCount, solvedRows}
 use Rattle.solve.specs.Rounds.{Rest}
-use Rattle.solve.proofs.RoundsSets.{set-length, flags-done}
+use Rattle.solve.proofs.RoundsSets.{flags-done}
 use Rattle.solve.proofs.RoundsKept.{begun}
 use Rattle.solve.proofs.RoundsRows.{rows-done}
 
@@ -54,11 +55,6 @@ module _ (s : List ℕ) (mask : ℕ) (start entries : List ℕ) where
   unfolding solvedCount solvedRows
   solved e = (rw e, rw e)
 
--- a test that does not hold
-and-not : (a : Bool) → a && false ≡ false
-and-not true = refl
-and-not false = refl
-
 module _ (s start entries : List ℕ) (states goals : ℕ) (es : states ≡ plantOf s .states) (eg : goals ≡ plantOf s .goals)
   where
     -- whether the solver can work, by the tests that a slice is too short
@@ -74,7 +70,7 @@ module _ (s start entries : List ℕ) (states goals : ℕ) (es : states ≡ plan
     pub short-unsolvable : ltb (length start) states || ltb (length entries) (2 * (states * goals)) ≡ true
         → solvable s start entries ≡ false
     short-unsolvable e =
-        room-solvable ∙ ap (λ (b : Bool). eqb (plantFault s) 0 && not b) e ∙ and-not (eqb (plantFault s) 0)
+        room-solvable ∙ ap (λ (b : Bool). eqb (plantFault s) 0 && not b) e ∙ and-none (eqb (plantFault s) 0) false refl
 
     -- none is: it can work where the table can be loaded
     pub load-solvable : ltb (length start) states || ltb (length entries) (2 * (states * goals)) ≡ false
@@ -122,7 +118,7 @@ module _ (s : List ℕ) (mask : ℕ) (start all : List ℕ) (count : ℕ) (b : B
   done-few =
       let most = ok .sizes .states-most in
       let kept = keptWithin (plantOf s) mask (flagged start) in
-      let few = set-length (plantOf s) mask kept (kept-sifted (plantOf s) mask (flagged start)) most in
+      let few = sifted-few (plantOf s .states) kept (kept-sifted (plantOf s) mask (flagged start)) in
       omega (arith, is ∙ ap length (b .same))
 
   pub done-solved : (states goals : ℕ) (old : List ℕ) {new : List ℕ}

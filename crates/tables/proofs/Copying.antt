@@ -9,7 +9,7 @@ use lib.Seq.{sets, length-sets}
 use Rattle.statements.specs.Plants.{Arrow, Plant, endsIn}
 use Rattle.tables.specs.Filling.{Rising}
 use Rattle.tables.proofs.Order.{ends-match, rising-after, rising-past, rising-none}
-use Rattle.tables.proofs.Stores.{sets-append, sets-before}
+use Rattle.sets.proofs.Over.{sets-append, sets-before}
 
 -- of the arrows those left are not copied yet; n ends are
 pub record Copied (p : Plant) (x u : ℕ) (arrows left : List Arrow) (n at : ℕ) (old new : List ℕ) : Type 0 where

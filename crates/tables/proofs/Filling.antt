@@ -19,7 +19,7 @@ use Rattle.tables.specs.Filling.{arrowsLeft, Begins}
 use Rattle.tables.proofs.Order.{arrows-length}
 use Rattle.sets.proofs.Joined.{joined-split, joined-more}
 use Rattle.tables.proofs.Grouping.{table-few}
-use Rattle.tables.proofs.Stores.{sets-append, sets-before, sets-over}
+use Rattle.sets.proofs.Over.{sets-append, sets-before, sets-over}
 
 -- the number of states is the first of a plant's numbers
 pub plant-states : (s : List ℕ) → plantOf s .states ≡ word 0 s

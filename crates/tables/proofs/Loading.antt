@@ -1,6 +1,6 @@
 -- When a table is loaded, and what can then be read from it. Assumes nothing.
-use mathlib.Core.Path.{_≡_, refl, ap, _∙_}
-use mathlib.Core.Bool.{Bool, true, false, _&&_}
+use mathlib.Core.Path.{_≡_, ap, _∙_}
+use mathlib.Core.Bool.{true, false}
 use mathlib.Core.List.{List, _++_, append-assoc}
 use Prim.Native.Nat.{ℕ, suc, _+_, _-_, _≤_, _<_}
 use native.Mathlib.Nat.{zero-add}
@@ -11,15 +11,11 @@ use lib.Seq.{slice, take-at, drop-at}
 use borrow.Author.Tests.{eqb-true, eq-eqb, ne-eqb, leb-true, le-leb, lt-leb}
 use Rattle.statements.specs.Sets.{joined, over}
 use Rattle.statements.specs.Plants.{Plant, plantOf, plantFault}
-use Rattle.sets.proofs.Tests.{and-left, and-right, and-true}
+use Rattle.sets.proofs.Tests.{and-none, and-left, and-right, and-true}
 use Rattle.sets.proofs.Over.{over-length}
 use Rattle.tables.specs.Table.{groupsOf, placeOf, tableOf, loadable, loadedTable, Table}
 use Rattle.sets.proofs.Joined.{joined-split, joined-at}
 use Rattle.tables.proofs.Filling.{placesOf, places-length, groups-more, place-next, table-most}
-
-and-not : (a b : Bool) → b ≡ false → a && b ≡ false
-and-not true b e = e
-and-not false b e = refl
 
 module _ (plant table : List ℕ) where
   -- a plant that is refused is not loaded, nor is one into too short an array; any other is
@@ -29,7 +25,7 @@ module _ (plant table : List ℕ) where
 
   pub load-short : length table < 25601 → loadable plant table ≡ false
   unfolding loadable
-  load-short h = and-not (eqb (plantFault plant) 0) (leb 25601 (length table)) (lt-leb 25601 (length table) h)
+  load-short h = and-none (eqb (plantFault plant) 0) (leb 25601 (length table)) (lt-leb 25601 (length table) h)
 
   pub load-ready : plantFault plant ≡ 0 → 25601 ≤ length table → loadable plant table ≡ true
   unfolding loadable

@@ -16,7 +16,7 @@ use Rattle.tables.proofs.Order.{Passed, asArrow, left-more, left-none, 
 use Rattle.tables.proofs.Order.{rising-next, rising-after, rising-state, rising-here, rising-passed}
 use Rattle.tables.proofs.Order.{rising-further, rising-nil}
 use Rattle.tables.proofs.Grouping.{groupsIn, groups-all, groups-same, groups-none, groups-skip, groups-group}
-use Rattle.tables.proofs.Stores.{sets-append}
+use Rattle.sets.proofs.Over.{sets-append}
 
 -- from the start to a place stand the groups of state x that the arrows before arrow k make
 pub record Written (s : List ℕ) (mask x k start at : ℕ) (old new : List ℕ) : Type 0 where

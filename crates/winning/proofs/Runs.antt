@@ -97,12 +97,7 @@ module _ (p : Plant) (mask : ℕ) (within more : ℕ → Type 0) (larger : (y : 
   forces-larger i n w = (w .0, record { holds = holds-larger (w .0) (w .1 .holds); in-time = w .1 .in-time })
 
 module _ (p : Plant) (mask : ℕ) (within other : ℕ → Type 0) (same : (y : ℕ) → within y ↔ other y) (x : ℕ) where
-  -- a strategy wins within a set exactly when one wins within another set of the same states
-  pub wins-same : Wins p mask within x ↔ Wins p mask other x
-  wins-same =
-      (wins-larger p mask within other (λ y. same y .0) x, wins-larger p mask other within (λ y. same y .1) x)
-
-  -- and forces a goal in time exactly when one does there
+  -- a strategy forces a goal in time within a set exactly when one does within another set of the same states
   pub forces-same : (i n : ℕ) → Forces p mask within x i n ↔ Forces p mask other x i n
   forces-same i n = (
     forces-larger p mask within other (λ y. same y .0) x i n,

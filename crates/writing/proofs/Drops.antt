@@ -3,16 +3,14 @@
 use mathlib.Core.Path.{_≡_, refl, sym, ap, _∙_}
 use mathlib.Core.Bool.{Bool, true, false, _&&_, not}
 use mathlib.Core.List.{List, [], _∷_, _++_, append-nil}
-use Prim.Native.Nat.{ℕ, zero, suc, _+_, _*_, _/_, _≤_, _<_}
-use native.Mathlib.Nat.{zero-add, add-zero}
-use native.Mathlib.Numerals.{add-one}
+use Prim.Native.Nat.{ℕ, _+_, _*_, _/_, _≤_, _<_}
 use native.Mathlib.Omega.{arith}
 use lib.ListN.{length, length-append}
 use lib.Seq.{sets}
 use borrow.Author.Tests.{le-leb, lt-leb}
 use Rattle.statements.specs.Sets.{consIf, numbers, filter, over}
 use Rattle.statements.specs.Books.{two, bytesOf, bookStates, isLost, bookKept, droppedStates}
-use Rattle.sets.proofs.Members.{filter-filter, filter-length, length-numbers}
+use Rattle.sets.proofs.Members.{filter-filter, filter-length, filter-snoc, length-numbers, numbers-more}
 use Rattle.sets.proofs.Over.{over-none, over-length}
 use Rattle.writing.specs.Written.{listable, droppedCount, writtenDrops}
 use Rattle.writing.proofs.Written.{bytes-length, bytes-more, put-more}
@@ -21,41 +19,20 @@ use Rattle.writing.proofs.Written.{bytes-length, bytes-more, put-more}
 unfoldable pub isDropped : List ℕ → List ℕ → ℕ → Bool
 isDropped before after x = not (isLost before x) && isLost after x
 
--- one number more at the end of a run
-numbers-more : (n x : ℕ) → numbers (suc n) x ≡ numbers n x ++ ((x + n) ∷ [])
-unfolding numbers
-numbers-more zero x = rw add-zero
-numbers-more (suc n) x =
-    let next : suc x + n ≡ x + suc n = omega arith in
-    ap (λ (ys : List ℕ). x ∷ ys) (numbers-more n (suc x) ∙ rw next)
-
--- a filter of two lists, one after the other
-consIf-append : (b : Bool) (x : ℕ) (xs ys : List ℕ) → consIf b x (xs ++ ys) ≡ consIf b x xs ++ ys
-consIf-append true x xs ys = refl
-consIf-append false x xs ys = refl
-
-filter-append : (f : ℕ → Bool) (xs ys : List ℕ) → filter f (xs ++ ys) ≡ filter f xs ++ filter f ys
-unfolding filter
-filter-append f [] ys = refl
-filter-append f (x ∷ xs) ys =
-    ap (consIf (f x) x) (filter-append f xs ys) ∙ consIf-append (f x) x (filter f xs) (filter f ys)
-
 -- the numbers below n at which a test holds
 unfoldable pub passed : (ℕ → Bool) → ℕ → List ℕ
 passed f n = filter f (numbers n 0)
 
 module _ (f : ℕ → Bool) (n : ℕ) where
   -- the next number: with it, without it
-  passed-turn : passed f (n + 1) ≡ passed f n ++ filter f (n ∷ [])
+  passed-turn : passed f (n + 1) ≡ passed f n ++ consIf (f n) n []
   unfolding passed
-  passed-turn = rw (add-one, numbers-more, filter-append, zero-add)
+  passed-turn = rw (numbers-more n, filter-snoc f (numbers n 0) n)
 
   passed-more : f n ≡ true → passed f (n + 1) ≡ passed f n ++ (n ∷ [])
-  unfolding filter
   passed-more t = passed-turn ∙ rw t
 
   passed-same : f n ≡ false → passed f (n + 1) ≡ passed f n
-  unfolding filter
   passed-same t = passed-turn ∙ rw (t, append-nil)
 
   -- no more than n

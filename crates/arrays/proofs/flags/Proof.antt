@@ -8,8 +8,9 @@ use borrow.Author.Tests.{eq-eqb, ne-eqb, not-true, not-false}
 use lib.ListN.{length, length-set}
 use Rattle.statements.specs.Sets.{numbers}
 use Rattle.sets.proofs.Members.{length-numbers}
+use Rattle.sets.proofs.Members.{numbers-more}
 use Rattle.arrays.specs.Lists.{flagged}
-use Rattle.arrays.proofs.Sieves.{Sieved, sieve-none, sieve-yes, sieve-no, numbers-more}
+use Rattle.arrays.proofs.Sieves.{Sieved, sieve-none, sieve-yes, sieve-no}
 use Rattle.arrays.proofs.Rows.{flag-fits, flag-off, three-tests}
 use Rattle.arrays.proofs.flags.Statement.{statement}
 use Rattle.arrays.proofs.flags.Tie as tie

@@ -7,6 +7,7 @@ use native.Mathlib.Omega.{arith}
 use lib.ListN.{length, length-replicate}
 use borrow.Author.Needs.{needs}
 use Rattle.statements.specs.Plants.{plantOf}
+use Rattle.sets.proofs.Iterate.{sifted-few}
 use Rattle.decoding.proofs.Sizes.{Sizes}
 use Rattle.decoding.proofs.Faults.{plant-ok}
 use Rattle.solve.proofs.ReachSteps as laws
@@ -54,7 +55,7 @@ loop-holds c =
     let p = plantOf (s .args .plant .now) in
     let all = s .args .all .now in
     let small = sized s .states-most in
-    let few : length all ≤ 1024 = omega (arith, small, laws.few-states p 0 all 0 (s .pre .1 .1 .0)) in
+    let few : length all ≤ 1024 = omega (arith, small, sifted-few (p .states) all (s .pre .1 .1 .0)) in
     let whole = copied all _ _ (omega (arith, few, length-replicate {A = ℕ} 1024 0)) (copy .copy .ensures) in
     laws.going-start p (s .args .mask) all (s .args .goal) small (copy .copy .kept .1 .0) whole
 
