@@ -75,6 +75,8 @@ demand-3-traced =
     record {
       as-afresh = λ s t.
           book-is s t ∙ demand-3 .as-afresh s (t .mask) (length (t .o)) (callsOf (t .steps)) (fault-zero s t);
+      right = λ s t.
+          rw (book-is s t) (demand-3 .right s (t .mask) (length (t .o)) (callsOf (t .steps)) (fault-zero s t));
       told-alone = λ s t. trace-answers s (take (t .r .length) (t .o′)) (t .steps) (t .goes)
           ∙ ap (λ b. answers s b (callsOf (t .steps))) (first-book s t)
           ∙ demand-3 .told-alone s (t .mask) (length (t .o)) (callsOf (t .steps)) (fault-zero s t);

@@ -7,11 +7,12 @@ use lib.Dec.{eqb}
 use lib.ListN.{length, drop}
 use Rattle.books.specs.declared.Advice.{Advice}
 use Rattle.books.specs.declared.Answer.{Answer}
+use Rattle.books.specs.declared.Mask.{Mask}
 use Rattle.statements.specs.Sets.{pick, over}
 use Rattle.statements.specs.Plants.{when, plantOf, labelsFrom}
-use Rattle.statements.specs.Books.{bookGoals, waitAt, moveAt, isLost, nextGoal}
+use Rattle.statements.specs.Books.{bookGoals, waitAt, moveAt, isLost, nextGoal, goodMoves}
 use Rattle.statements.specs.Books.{madeBook, withdrawnBook, droppedStates}
-use Rattle.statements.specs.Calls.{consultFault, makeFault, withdrawFault}
+use Rattle.statements.specs.Calls.{consultFault, movesFault, makeFault, withdrawFault}
 
 -- a call on a book is accepted
 unfoldable pub accepted : List ℕ → ℕ → ℕ → Bool
@@ -29,6 +30,12 @@ pub record ConsultSays (b : List ℕ) (x i : ℕ) (r : Advice) : Type 0 where
   pub action : r .action ≡ pick (keeps b x i) (moveAt b x i) 0
   pub wait : r .wait ≡ pick (keeps b x i) (waitAt b x i) 0
   pub seek : r .seek ≡ pick (keeps b x i) (nextGoal b x i) 0
+
+-- asking for all good moves with a plant's bytes s, a book b, a state x and the goal i sought: the number is 1 to 5, 8 or
+-- 0; an accepted call gives the moves that meet the entry's rule, as a mask; a refused one 0
+pub record MovesSays (s b : List ℕ) (x i : ℕ) (r : Mask) : Type 0 where
+  pub number : r .number ≡ movesFault s b x i
+  pub mask : r .mask ≡ pick (eqb (r .number) 0) (goodMoves (plantOf s) b x i) 0
 
 -- where in a book b the row of state x starts; 0 when refused
 unfoldable pub rowStart : List ℕ → ℕ → ℕ

@@ -11,7 +11,7 @@ use Rattle.statements.specs.Sets.{pick}
 use Rattle.statements.specs.Plants.{plantOf}
 use Rattle.statements.specs.Books.{madeBook}
 use Rattle.statements.specs.Calls.{Call, makes, withdraws, told, inService}
-use Rattle.statements.specs.Demands.{Demand-2, Demand-3}
+use Rattle.statements.specs.Demands.{Allowed, Right, Demand-2, Demand-3}
 use Rattle.books.specs.Says.{MakeSays, WithdrawSays}
 
 -- a call that went: its mask, its book buffer before and after, for a withdrawal its drop buffer before and after, and
@@ -82,6 +82,9 @@ serviceAfter s t = inService (plantOf s) (t .mask) (callsOf (t .steps))
 pub record Demand-3-traced : Type 0 where
   -- the standing book is that of a making afresh with the moves in service
   pub as-afresh : (s : List ℕ) (t : Begun s) → bookAfter s t ≡ madeBook (plantOf s) (serviceAfter s t)
+  -- so that demand 2 and request (i) hold of it
+  pub right : (s : List ℕ) (t : Begun s) →
+      Right (plantOf s) (serviceAfter s t) (Allowed (plantOf s)) (bookAfter s t)
   -- each answer's number is told from the masks and the buffers' lengths alone
   pub told-alone : (s : List ℕ) (t : Begun s) → numbersIn (t .steps) ≡ told (plantOf s) (callsOf (t .steps))
   -- two such traces on one plant end with equal books exactly when the same moves are in service

@@ -1,4 +1,5 @@
-// The public calls: make a control book, withdraw moves from one, consult it for a move, hand back a state's row.
+// The public calls: make a control book, withdraw moves from one, consult it for a move or for all good ones, hand back
+// a state's row.
 mod consult;
 mod start;
 
@@ -8,7 +9,7 @@ ghost use Prim.Native.Nat.{_+_};
 ghost use lib.Dec.{eqb};
 ghost use lib.ListN.{length};
 ghost use Rattle.statements.specs.Calls.{rowPart};
-ghost use Rattle.books.specs.Says.{accepted, ConsultSays, rowStart, MakeSays, WithdrawSays};
+ghost use Rattle.books.specs.Says.{accepted, ConsultSays, MovesSays, rowStart, MakeSays, WithdrawSays};
 ghost use Rattle.books.specs.Traces.{Demands};
 
 // What consult answers. A refused call has its number, and 0 in every other field; a lost state has `lost`, and 0 in
@@ -45,6 +46,32 @@ pub fn consult_book(book: &[u8], state: u32, goal: u32) -> Advice
         };
     }
     consult::advise(book, state, goal)
+}
+
+// What the call for all good moves answers: the number of a refusal or 0, and the moves as a mask, bit u for move u. A
+// refused call has 0 there.
+pub struct Mask {
+    pub number: u8,
+    pub mask: u32,
+}
+
+// Takes a plant, a book, a state and the goal sought. Answers all moves that meet the rule of that entry, as a mask; 0
+// for a lost state.
+pub fn good_moves(plant: &[u8], book: &[u8], state: u32, goal: u32) -> Mask
+    ensures { λ r. ⌜ MovesSays (now (plant .entry)) (now (book .entry)) state goal r ⌝ }
+    ensures demands { λ _. ⌜ Demands ⌝ }
+{
+    let fault = refusals::moves(plant, book, state, goal);
+    if fault != 0 {
+        return Mask {
+            number: fault,
+            mask: 0,
+        };
+    }
+    Mask {
+        number: 0,
+        mask: moves::good(plant, book, state, goal),
+    }
 }
 
 // Takes a book and a state and hands back that state's row as the part of the book lent; an empty part when refused.

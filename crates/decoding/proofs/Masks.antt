@@ -3,21 +3,13 @@ use mathlib.Core.Path.{_≡_, refl, sym, _∙_}
 use mathlib.Core.Bool.{true, false, _&&_, not}
 use Prim.Native.Nat.{ℕ, zero, suc, _-_, _/_, _%_, _^_, _<_}
 use native.Mathlib.Omega.{arith}
-use native.Mathlib.Nat.{div-div-eq-div-mul, pow-succ', div-one}
 use lib.Dec.{eqb}
 use lib.Bits.{bitAnd, and-step, and-le-l}
 use borrow.Author.Tests.{ltb-true, lt-ltb, not-true}
 use Rattle.statements.specs.Sets.{bit}
 use Rattle.statements.specs.Books.{lessMask, maskOk}
 use Rattle.sets.proofs.Tests.{and-left, and-right}
-
-pub bit-suc : (u v : ℕ) → bit (suc u) v ≡ bit u (v / 2)
-unfolding bit
-bit-suc u v = rw (pow-succ', ← div-div-eq-div-mul)
-
-pub bit-zero : (v : ℕ) → bit 0 v ≡ eqb (v % 2) 1
-unfolding bit
-bit-zero v = rw (div-one) refl
+use Rattle.sets.proofs.Bits.{bit-suc, bit-zero}
 
 less-half : (a b : ℕ) → lessMask a b / 2 ≡ lessMask (a / 2) (b / 2)
 unfolding lessMask

@@ -16,7 +16,7 @@ use Rattle.decoding.proofs.Header.{read-mask, same-mask}
 use Rattle.decoding.proofs.Accepted.{book-alike}
 use Rattle.decoding.proofs.Faults.{PlantOk}
 use Rattle.demands.proofs.Plants.{before-allowed, given-allowed}
-use Rattle.demands.proofs.Winners.{lost-kept}
+use Rattle.demands.proofs.Rules.{lost-kept}
 use Rattle.demands.proofs.Books.{accepted}
 
 -- equal books of makings have the same moves in service

@@ -2,28 +2,27 @@
 -- least within which a goal is forced, and listed moves the lowest that serve. Assumes nothing.
 use mathlib.Core.Path.{_≡_, sym, _∙_}
 use mathlib.Core.Logic.{_↔_, Iff·trans}
-use mathlib.Core.Bool.{Bool, true}
+use mathlib.Core.Bool.{Bool}
 use mathlib.Core.List.{List}
 use Prim.Native.Nat.{ℕ, _≤_, _<_}
-use Rattle.statements.specs.Sets.{isIn}
-use Rattle.statements.specs.Plants.{Plant, ends}
-use Rattle.statements.specs.Kept.{keptWithin, nearer}
-use Rattle.statements.specs.Books.{waitAt, moveAt, bookFault, bookWithin}
+use Rattle.statements.specs.Plants.{Plant}
+use Rattle.statements.specs.Kept.{keptWithin}
+use Rattle.statements.specs.Books.{waitAt, moveAt, bookFault, nearerIn, bookWithin}
 use Rattle.statements.specs.Strategies.{Wins, Forces, following}
-use Rattle.statements.specs.Demands.{Lowest, IsBook, Right}
+use Rattle.statements.specs.Demands.{Lowest, Nearer, IsBook, Right}
 use Rattle.sets.proofs.Tests.{not-both}
-use Rattle.kept.proofs.Moves.{into-all}
-use Rattle.kept.proofs.Kept.{kept-forced}
-use Rattle.kept.proofs.Waits.{nearer-in}
+use Rattle.kept.proofs.Moves.{move-lowest}
 use Rattle.winning.proofs.Runs.{forces-same, wins-by-larger}
 use Rattle.winning.proofs.Following.{follows}
 use Rattle.decoding.proofs.Header.{book-length, read-states, read-moves, read-goals, read-mask, read-rows-at}
 use Rattle.decoding.proofs.Header.{read-total}
 use Rattle.decoding.proofs.Bytes.{book-bytes}
 use Rattle.decoding.proofs.Accepted.{book-count, book-accepted}
-use Rattle.demands.proofs.Plants.{Given, some-goal, given-fits}
-use Rattle.demands.proofs.Winners.{Within, IsKept, lost-kept, book-wait, book-least, guides, winners, waits}
+use Rattle.demands.proofs.Plants.{Given, given-fits}
+use Rattle.demands.proofs.Rules.{IsKept, lost-kept, book-wait, book-move, book-into}
+use Rattle.demands.proofs.Winners.{Within, guides, winners, rule-wins, waits}
 use Rattle.demands.proofs.Same.{one-book}
+use Rattle.demands.proofs.Picks.{good-iff, listed-lowest, picks-serve}
 
 module _ {p : Plant} {mask : ℕ} {within : ℕ → Bool} (given : Given p mask within) where
   -- the calls accept it
@@ -45,23 +44,15 @@ module _ {p : Plant} {mask : ℕ} {within : ℕ → Bool} (given : Given p mask 
   book-lowest :
       (x i : ℕ) → i < p .goals → Wins p mask (Within within) x →
       let b = bookWithin p mask within in
-      Lowest p mask x (λ y. Wins p mask (Within within) y × (0 < waitAt b x i → waitAt b y i < waitAt b x i))
-      (moveAt b x i)
+      Lowest p mask x (Nearer p mask (Within within) b x i) (moveAt b x i)
   book-lowest x i hi w =
+      let b = bookWithin p mask within in
       let h = winners given x .1 w in
       record {
-        is-available = guides given .open-to x i h hi;
-        ends-well = λ y m. let r = guides given .into x i y h hi m in (winners given y .0 (r .0), r .1);
-        none-lower = λ v l a good.
-            let kept = keptWithin p mask within in
-            let n = waitAt (bookWithin p mask within) x i in
-            let closer : (y : ℕ) → isIn y (ends p x v) ≡ true → isIn y (nearer p mask kept i n) ≡ true =
-            λ y m.
-            let r = good y m in
-            let k = winners given y .1 (r .0) in
-            nearer-in p mask kept (some-goal given) (kept-forced p mask within) i hi n y k
-            (λ up. rw (← book-wait given y i k hi) (r .1 up)) in
-            not-both (into-all p mask (nearer p mask kept i n) x v a closer) (book-least given x i h hi v l);
+        meets = rule-wins given x i hi (moveAt b x i) .0 (book-into given x i hi h);
+        none-lower = λ v l m.
+            not-both (rule-wins given x i hi v .1 m)
+            (move-lowest p mask (nearerIn b x i) x v (rw (book-move given x i hi h) at l));
       }
 
   -- the book is what document 01 says of it
@@ -94,7 +85,7 @@ module _ {p : Plant} {mask : ℕ} {within : ℕ → Bool} (given : Given p mask 
   pub book-iff : (b : List ℕ) → IsBook p mask (Within within) b ↔ (b ≡ bookWithin p mask within)
   book-iff b = (no-other b, λ e. rw e is-book)
 
-  -- what demand 2 says of the book
+  -- what demand 2 and request (i) say of the book
   pub right : Right p mask (Within within) (bookWithin p mask within)
   right =
       record {
@@ -107,4 +98,7 @@ module _ {p : Plant} {mask : ℕ} {within : ℕ → Bool} (given : Given p mask 
             wins-by-larger p mask (IsKept p mask within) (Wins p mask (Within within)) (λ y. winners given y .0) x
             (following (bookWithin p mask within) goal)
             (follows (guides given) x goal (lost-kept given x hx .0 e) hg);
+        set = good-iff given;
+        listed = listed-lowest given;
+        picks = picks-serve given;
       }

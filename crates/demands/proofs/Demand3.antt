@@ -9,13 +9,15 @@ use lib.Dec.{eqb}
 use borrow.Author.Tests.{eqb-true}
 use Rattle.statements.specs.Sets.{pick}
 use Rattle.statements.specs.Plants.{Plant, plantOf, plantFault}
-use Rattle.statements.specs.Books.{bookFault, maskOk, madeBook}
+use Rattle.statements.specs.Books.{maskOk, madeBook}
 use Rattle.statements.specs.Calls.{makeFault, Call, makes, withdraws, answerOf, writtenBy, standingAfter}
 use Rattle.statements.specs.Calls.{standing, answers, toldOf, told, putBy, inService}
-use Rattle.statements.specs.Demands.{Demand-3}
+use Rattle.statements.specs.Demands.{Allowed, Right, Demand-3}
 use Rattle.sets.proofs.Tests.{decided}
 use Rattle.decoding.proofs.Masks.{less-ok}
 use Rattle.decoding.proofs.Faults.{plant-ok, make-ok, make-told, withdraw-told}
+use Rattle.demands.proofs.Plants.{given-allowed}
+use Rattle.demands.proofs.Books.{right}
 use Rattle.demands.proofs.Afresh.{made-same, made-alike, made-accepted, withdrawn-afresh}
 
 -- the moves in service after a call, told from the call alone
@@ -82,13 +84,16 @@ module _ (s : List ℕ) (accepted : plantFault s ≡ 0) where
   standing-afresh mask (c ∷ cs) ok =
       rw (after-afresh mask ok c) (standing-afresh (putAfter (plantOf s) mask c) cs (after-ok mask ok c))
 
-  -- so that it is accepted
-  pub standing-accepted :
+  -- so that it is right
+  pub standing-right :
       (mask : ℕ) (calls : List Call) → maskOk (plantOf s .moves) mask ≡ true →
-      bookFault (standing s (madeBook (plantOf s) mask) calls) ≡ 0
-  standing-accepted mask calls ok =
+      Right (plantOf s) (inService (plantOf s) mask calls) (Allowed (plantOf s))
+      (standing s (madeBook (plantOf s) mask) calls)
+  unfolding madeBook
+  standing-right mask calls ok =
+      let p = plantOf s in
       rw (standing-afresh mask calls ok)
-      (made-accepted (plantOf s) (plant-ok s accepted) (inService (plantOf s) mask calls) (service-ok mask calls ok))
+      (right (given-allowed p (inService p mask calls) (plant-ok s accepted) (service-ok mask calls ok)))
 
   -- and each call answers as told from the calls alone
   pub answers-told :
@@ -105,6 +110,9 @@ pub demand-3 : Demand-3
 demand-3 =
     record {
       as-afresh = afresh;
+      right = λ s mask room calls h.
+          let ok = make-ok s mask room h in
+          standing-right s (ok .plant) mask calls (ok .mask-ok);
       told-alone = λ s mask room calls h.
           let ok = make-ok s mask room h in
           answers-told s (ok .plant) mask calls (ok .mask-ok);

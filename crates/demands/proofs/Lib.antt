@@ -1,7 +1,9 @@
 -- Demands 2 and 3 proved, and the laws of books that lead there. Each file leans on those above it alone.
 pub mod Plants
+pub mod Rules
 pub mod Winners
 pub mod Same
+pub mod Picks
 pub mod Books
 pub mod Demand2
 pub mod Afresh

@@ -5,7 +5,7 @@ use mathlib.Core.Bool.{Bool, true, not}
 use mathlib.Core.List.{List}
 use Prim.Native.Nat.{ℕ, _<_}
 use native.Mathlib.Omega.{arith}
-use Rattle.statements.specs.Sets.{numbers}
+use Rattle.statements.specs.Sets.{numbers, isIn}
 use Rattle.statements.specs.Plants.{Plant, plantOf, ends, allowed}
 use Rattle.statements.specs.Kept.{keptWithin, waitOf, nearer, listedMove}
 use Rattle.statements.specs.Books.{isLost, bookMask, maskOk, lessMask, keptBefore}
@@ -30,6 +30,11 @@ pub record Given (p : Plant) (mask : ℕ) (within : ℕ → Bool) : Type 0 where
 pub moves-below : (p : Plant) → PlantOk p → MovesBelow p
 unfolding ends
 moves-below p ok x u y h = arrow-range (p .arrows) (p .states) (p .moves) 0 x u y (ok .arrows-ok) h .0
+
+-- and starts in one of its states
+pub from-below : (p : Plant) → PlantOk p → (x u y : ℕ) → isIn y (ends p x u) ≡ true → x < p .states
+unfolding ends
+from-below p ok x u y h = arrow-range (p .arrows) (p .states) (p .moves) 0 x u y (ok .arrows-ok) h .2
 
 -- what a withdrawal may not leave is allowed
 pub before-allowed : (p : Plant) (b : List ℕ) (x : ℕ) → keptBefore p b x ≡ true → allowed p x ≡ true

@@ -14,10 +14,10 @@ use Rattle.statements.specs.Sets.{numbers, filter}
 use Rattle.statements.specs.Plants.{Plant}
 use Rattle.statements.specs.Books.{bookCount, waitAt, moveAt, isLost, bookKept}
 use Rattle.statements.specs.Strategies.{Wins}
-use Rattle.statements.specs.Demands.{Lowest, IsBook}
+use Rattle.statements.specs.Demands.{Lowest, Nearer, IsBook}
 use Rattle.sets.proofs.Tests.{decided, same-test}
 use Rattle.sets.proofs.Members.{filter-same, numbers-holds}
-use Rattle.winning.proofs.Runs.{wins-within}
+use Rattle.winning.proofs.Runs.{meets-larger, wins-within}
 use Rattle.decoding.proofs.Entries.{lost-marks}
 use Rattle.decoding.proofs.Unique.{same-books, head-words}
 
@@ -26,7 +26,7 @@ not-lower :
     (p : Plant) (mask x u v : ℕ) (good other : ℕ → Type 0) → ((y : ℕ) → good y → other y) →
     Lowest p mask x good u → Lowest p mask x other v → u < v → ⊥
 not-lower p mask x u v good other wider a b l =
-    b .none-lower u l (a .is-available) (λ y m. wider y (a .ends-well y m))
+    b .none-lower u l (meets-larger p mask x u good other wider (a .meets))
 
 -- there is one lowest move into the states with a property
 pub lowest-same :
@@ -76,8 +76,7 @@ module _ (p : Plant) (mask : ℕ) (within : ℕ → Type 0) (below : (x : ℕ) �
   same-move x i w hi =
       let hx = below x (wins-within p mask within x w) in
       lowest-same p mask x (moveAt b x i) (moveAt c x i)
-      (λ y. Wins p mask within y × (0 < waitAt b x i → waitAt b y i < waitAt b x i))
-      (λ y. Wins p mask within y × (0 < waitAt c x i → waitAt c y i < waitAt c x i))
+      (Nearer p mask within b x i) (Nearer p mask within c x i)
       (λ y. (
         λ g. (g .0, rw (← same-wait x i w hi, ← same-wait y i (g .0) hi) (g .1)),
         λ g. (g .0, rw (same-wait x i w hi, same-wait y i (g .0) hi) (g .1)),

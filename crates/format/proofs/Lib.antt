@@ -2,4 +2,5 @@
 pub mod Words
 pub mod Header
 pub mod Parts
+pub mod Stored
 pub mod Faults

@@ -33,6 +33,14 @@ pub fn arrow_at(plant: &[u8], k: u16) -> Arrow
     }
 }
 
+// The state in which arrow k starts, for a pass that looks for the arrows of one state.
+pub fn from_at(plant: &[u8], k: u16) -> u16
+    ensures { λ r. ⌜ r ≡ arrowIn (now (plant .entry)) k .from ⌝ }
+{
+    let place = 16 + 2 * (number(plant, 0) as usize) + 6 * (k as usize);
+    word_at(plant, place)
+}
+
 // A reader of a plant's arrows, at a place.
 pub fn new<'a>(plant: &'a [u8], at: u16) -> Arrows<'a>
     ensures { λ r. ⌜ (r .plant ≡ plant .entry) × (r .at ≡ at) ⌝ }

@@ -1,7 +1,7 @@
 -- Kept states: the rounds stand still at last, kept states force every goal within kept states, and every set that does
 -- so is kept. From these: what a smaller start keeps, and what fewer moves keep. Assumes nothing.
 use mathlib.Core.Path.{_≡_, refl}
-use mathlib.Core.Logic.{_⊎_, ⊎-elim}
+use mathlib.Core.Logic.{⊎-elim}
 use mathlib.Core.Bool.{Bool, true}
 use mathlib.Core.List.{List}
 use Prim.Native.Nat.{ℕ, zero, suc, _≤_, _<_}

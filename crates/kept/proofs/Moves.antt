@@ -6,14 +6,16 @@ use mathlib.Core.Bool.{true, false}
 use mathlib.Core.List.{List, [], _∷_}
 use Prim.Native.Nat.{ℕ, _<_}
 use native.Mathlib.Omega.{arith}
+use native.Mathlib.Decide.{decLt}
 use lib.Dec.{leb}
 use lib.ListN.{length}
 use borrow.Author.Tests.{ltb-true, lt-ltb, leb-true}
-use Rattle.statements.specs.Sets.{bit, first, isIn, allIn}
-use Rattle.statements.specs.Plants.{Plant, ends, available, goesInto, moveInto, can}
-use Rattle.sets.proofs.Tests.{decided, not-both, and-true, and-left, and-right, and-false}
+use Rattle.statements.specs.Sets.{bit, bits, first, lowest, isIn, allIn}
+use Rattle.statements.specs.Plants.{Plant, ends, available, goesInto, moveInto, movesInto, can}
+use Rattle.sets.proofs.Tests.{decided, not-both, and-true, and-left, and-right, and-false, same-test}
 use Rattle.sets.proofs.Members.{isIn-here, allIn-at, allIn-all, allIn-fails}
 use Rattle.sets.proofs.First.{first-holds, first-least, first-before}
+use Rattle.sets.proofs.Bits.{bits-at, bits-past, lowest-bits}
 
 -- every arrow's move is one of the plant's
 abbrev pub MovesBelow : Plant → Type 0
@@ -84,6 +86,25 @@ unfolding can moveInto
 can-by p mask ys x u l h =
     let k = first-least (p .moves) 0 (goesInto p mask ys x) u (omega arith) (omega arith) h in
     lt-ltb (first (p .moves) 0 (goesInto p mask ys x)) (p .moves) (omega arith)
+
+-- the mask of all such moves has them and no others
+pub moves-bit : (p : Plant) (mask : ℕ) (ys : List ℕ) (x u : ℕ) → MovesBelow p →
+    bit u (movesInto p mask ys x) ≡ goesInto p mask ys x u
+unfolding movesInto
+moves-bit p mask ys x u b =
+    elim (decLt u (p .moves)) [
+      | yes l ↦ bits-at (goesInto p mask ys x) (p .moves) u l
+      | no l ↦
+          same-test (bit u (bits (p .moves) 0 (goesInto p mask ys x))) (goesInto p mask ys x u)
+          (λ e. absurd (not-both e (bits-past (goesInto p mask ys x) (p .moves) 0 u (omega arith))))
+          (λ e. absurd (omega (arith, available-below p mask x u b (into-available p mask ys x u e))))
+    ]
+
+-- its lowest is the lowest of them
+pub moves-lowest : (p : Plant) (mask : ℕ) (ys : List ℕ) (x : ℕ) →
+    lowest (p .moves) (movesInto p mask ys x) ≡ moveInto p mask ys x
+unfolding movesInto moveInto
+moves-lowest p mask ys x = lowest-bits (p .moves) (goesInto p mask ys x)
 
 -- more moves in service and a larger set
 pub can-more : (p : Plant) (m n : ℕ) (ys zs : List ℕ) (x : ℕ) → MaskWithin m n → Sub ys zs → can p m ys x ≡ true →

@@ -17,7 +17,7 @@ use Rattle.sets.proofs.Members.{Sifted, sifted-filter, sifted-member, filter-sa
 use Rattle.sets.proofs.First.{first-holds, first-least}
 use Rattle.sets.proofs.Iterate.{iterate-still}
 use Rattle.kept.proofs.Moves.{Sub, MovesBelow, can-more, can-move, can-not, available-end, into-available}
-use Rattle.kept.proofs.Moves.{into-ends, move-lowest}
+use Rattle.kept.proofs.Moves.{into-ends}
 use Rattle.kept.proofs.Reach.{grown-holds, grown-can, steps-full, steps-later, steps-sifted, forced-least}
 use Rattle.kept.proofs.Reach.{target-holds}
 
@@ -142,12 +142,9 @@ module _ (p : Plant) (mask : ℕ) (kept : List ℕ) (some-goal : 0 < p .goals) (
           (λ e. let s = wait-short in omega (arith, leb-false (suc n) (length kept) e))
           (decided (ltb n (length kept)))
 
-      -- it is 0 exactly in the goal
+      -- it is 0 only in the goal
       pub wait-goal : waitOf p mask kept i x ≡ 0 → inGoal p i x ≡ true
       wait-goal e = level-goal x (wait-level 0 (omega arith)) .1
-
-      pub goal-wait : inGoal p i x ≡ true → waitOf p mask kept i x ≡ 0
-      goal-wait g = let l = level-wait 0 (goal-level x is-kept g) in omega arith
 
     -- where the listed move may end
     pub nearer-holds : (w y : ℕ) → isIn y (nearer p mask kept i w) ≡ true →
@@ -187,17 +184,12 @@ module _ (p : Plant) (mask : ℕ) (kept : List ℕ) (some-goal : 0 < p .goals) (
             (⊎-elim (λ m. absurd (omega (arith, level-wait x is-kept n m))) (λ c. c)
             (level-step n x (wait-level x is-kept (suc n) (omega arith))))
 
-    -- the listed move of a kept state goes there, and no lower one does
+    -- the listed move of a kept state goes there
     pub listed-into : (x : ℕ) → isIn x kept ≡ true →
         (listedMove p mask kept i x < p .moves) ×
         (goesInto p mask (nearer p mask kept i (waitOf p mask kept i x)) x (listedMove p mask kept i x) ≡ true)
     unfolding listedMove
     listed-into x k = can-move p mask (nearer p mask kept i (waitOf p mask kept i x)) x (nearer-can x k)
-
-    pub listed-lowest : (x v : ℕ) → v < listedMove p mask kept i x →
-        goesInto p mask (nearer p mask kept i (waitOf p mask kept i x)) x v ≡ false
-    unfolding listedMove
-    listed-lowest x v l = move-lowest p mask (nearer p mask kept i (waitOf p mask kept i x)) x v l
 
     -- a kept state that is not in level n is not in the goal, and above level 0 every available move may miss the level
     -- below

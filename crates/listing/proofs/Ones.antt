@@ -9,7 +9,7 @@ use lib.Count.{ones, ones-step}
 use lib.Dec.{eqb}
 use lib.ListN.{length}
 use Rattle.statements.specs.Sets.{bit, numbers, consIf, filter}
-use Rattle.decoding.proofs.Masks.{bit-suc, bit-zero}
+use Rattle.sets.proofs.Bits.{bit-suc, bit-zero}
 
 -- the bits from 1 on are the bits of the half
 bits-half : (k x m : ℕ) → length (filter (λ u. bit u m) (numbers k (suc x)))

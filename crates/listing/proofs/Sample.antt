@@ -8,7 +8,7 @@ use Rattle.statements.specs.Sets.{every, joined}
 use Rattle.statements.specs.Plants.{word, plantOf}
 use Rattle.statements.specs.Books.{two, bytesOf, bookStates, bookGoals, bookCount, bookMask, waitAt, moveAt, isLost}
 use Rattle.statements.specs.Books.{madeBook, withdrawnBook}
-use Rattle.statements.specs.Marked.{plantP, bookP, lostRow}
+use Rattle.statements.specs.Marked.{plantP, bookP, lostRow, bookM2}
 use Rattle.statements.proofs.Examples.{marked}
 use Rattle.listing.specs.Text.{lastDigit, digitsWithin, digits, figure, ofText, keptText, movesText, space}
 use Rattle.listing.specs.Text.{newline, lostText, headText, lineText, stateText, bookText}
@@ -24,7 +24,7 @@ sampleText =
 
 -- P with masks 7 and 4 prints the sample
 pub sample : bookText (withdrawnBook (plantOf plantP) (madeBook (plantOf plantP) 7) 4) ≡ sampleText
-unfolding bookP lostRow two bytesOf word every joined bookStates bookGoals bookCount bookMask waitAt moveAt isLost
+unfolding bookP lostRow bookM2 two bytesOf word every joined bookStates bookGoals bookCount bookMask waitAt moveAt isLost
     ones onesIn lastDigit digitsWithin digits figure ofText keptText movesText space newline lostText headText
     lineText stateText bookText sampleText
 sample =

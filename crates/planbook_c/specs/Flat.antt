@@ -9,13 +9,19 @@ use Rattle.statements.specs.Books.{isLost, waitAt, moveAt, nextGoal}
 use Rattle.statements.specs.Calls.{consultFault, rowPart}
 use Rattle.books.specs.Says.{accepted, keeps, rowStart}
 use Rattle.books.specs.declared.Answer as planner
+use Rattle.books.specs.declared.Mask as planner-mask
 use Rattle.planbook_c.specs.declared.Answer.{Answer}
 use Rattle.planbook_c.specs.declared.Advice.{Advice}
+use Rattle.planbook_c.specs.declared.Mask.{Mask}
 use Rattle.planbook_c.specs.declared.Part.{Part}
 
 -- an answer of make or withdraw with the planner's own type
 abbrev pub plain : Answer → planner.Answer
 plain r = record { number = r .number; length = r .length; drops = r .drops }
+
+-- an answer of the call for all good moves with the planner's own type
+abbrev pub plainMask : Mask → planner-mask.Mask
+plainMask r = record { number = r .number; mask = r .mask }
 
 -- consulting a book b for a state x and the goal i sought: a refusal's number or 0; 1 for a lost state; or the move, the
 -- wait and the goal to seek next; every field that is not given is 0

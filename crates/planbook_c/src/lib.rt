@@ -2,8 +2,8 @@
 // include/planbook.h says the same in C.
 ghost use mathlib.Core.Path.{_≡_};
 ghost use Rattle.statements.specs.Sets.{pick};
-ghost use Rattle.books.specs.Says.{MakeSays, WithdrawSays};
-ghost use Rattle.planbook_c.specs.Flat.{plain, AdviceSays, PartSays};
+ghost use Rattle.books.specs.Says.{MakeSays, WithdrawSays, MovesSays};
+ghost use Rattle.planbook_c.specs.Flat.{plain, plainMask, AdviceSays, PartSays};
 
 // What make and withdraw answer: a refusal's number or 0, the book's length, the number of states dropped.
 #[repr(C)]
@@ -21,6 +21,13 @@ pub struct Advice {
     pub action: u32,
     pub wait: u32,
     pub seek: u32,
+}
+
+// What the call for all good moves answers: a refusal's number or 0, and the moves, bit u for move u.
+#[repr(C)]
+pub struct Mask {
+    pub number: u32,
+    pub mask: u32,
 }
 
 // What row answers: a refusal's number or 0, and where in the book lent the row starts and how long it is.
@@ -85,6 +92,18 @@ pub extern "C" fn planbook_consult(book: &[u8], state: u32, goal: u32) -> Advice
         action: r.action as u32,
         wait: r.wait as u32,
         seek: r.seek as u32,
+    }
+}
+
+// Takes a plant, a book, a state and the goal sought. Answers all moves that meet the rule of that entry, as a mask.
+#[no_mangle]
+pub extern "C" fn planbook_moves(plant: &[u8], book: &[u8], state: u32, goal: u32) -> Mask
+    ensures { λ r. ⌜ MovesSays (now (plant .entry)) (now (book .entry)) state goal (plainMask r) ⌝ }
+{
+    let r = books::good_moves(plant, book, state, goal);
+    Mask {
+        number: r.number as u32,
+        mask: r.mask,
     }
 }
 

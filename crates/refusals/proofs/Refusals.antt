@@ -9,7 +9,7 @@ use borrow.Author.Tests.{not-false}
 use Rattle.statements.specs.Plants.{Plant, firstOf, when, plantOf, plantFault}
 use Rattle.statements.specs.Books.{bookStates, bookGoals, maskOk, bookHeadOk, rowsOk, bookFault}
 use Rattle.statements.specs.Calls.{maskFault, bookRoom, dropRoom, makeFault, alike, withdrawFault, withdraws}
-use Rattle.statements.specs.Calls.{consultFault, toldOf}
+use Rattle.statements.specs.Calls.{consultFault, movesFault, toldOf}
 use Rattle.sets.proofs.Tests.{decided, or-neither}
 use Rattle.decoding.proofs.Faults.{make-told, withdraw-told}
 use Rattle.rows.proofs.Faults.{fault-4, fault-5, no-book-fault}
@@ -65,6 +65,16 @@ not-and : (a b : Bool) → not (a && b) ≡ (not a || not b)
 not-and true b = refl
 not-and false b = refl
 
+-- an answer about a book is 4, as its header tells, or the book is for other numbers of states, moves or goals than the
+-- plant has
+abbrev Unlike : List ℕ → List ℕ → ℕ → Bool
+Unlike s b answer = eqb answer 4 || not (alike (plantOf s) b)
+
+unlike : (s b : List ℕ) (answer : ℕ) → eqb (bookFault b) 4 ≡ eqb answer 4
+    → not (bookHeadOk b && alike (plantOf s) b) ≡ Unlike s b answer
+unlike s b answer e =
+    not-and (bookHeadOk b) _ ∙ ap (λ (t : Bool). t || not (alike (plantOf s) b)) (head-tested b ∙ e)
+
 -- withdraw returns the plant's own answer
 pub withdraw-plant : (s b : List ℕ) (gone room drops : ℕ) → (plantFault s ≡ 0 → ⊥)
     → withdrawFault s b gone room drops ≡ plantFault s
@@ -72,22 +82,16 @@ unfolding withdrawFault
 withdraw-plant s b gone room drops h = first-given (plantFault s) _ h
 
 module _ (s b : List ℕ) (gone room drops : ℕ) (plant : plantFault s ≡ 0) where
-  abbrev Unlike : Bool
-  Unlike = eqb (bookFault b) 4 || not (alike (plantOf s) b)
-
-  unlike : not (bookHeadOk b && alike (plantOf s) b) ≡ Unlike
-  unlike = not-and (bookHeadOk b) _ ∙ ap (λ (t : Bool). t || not (alike (plantOf s) b)) (head-tested b)
-
   -- 4 for a bad header, or a book for other numbers of states, moves or goals than the plant has
-  pub withdraw-4 : Unlike ≡ true → withdrawFault s b gone room drops ≡ 4
+  pub withdraw-4 : Unlike s b (bookFault b) ≡ true → withdrawFault s b gone room drops ≡ 4
   unfolding withdrawFault
-  withdraw-4 u = rw (plant, unlike, u)
+  withdraw-4 u = rw (plant, unlike s b (bookFault b) refl, u)
 
-  module _ (like : Unlike ≡ false) where
+  module _ (like : Unlike s b (bookFault b) ≡ false) where
     -- the book's own answer
     pub withdraw-book : (bookFault b ≡ 0 → ⊥) → withdrawFault s b gone room drops ≡ bookFault b
     unfolding withdrawFault
-    withdraw-book h = rw (plant, unlike, like) (first-given (bookFault b) _ h)
+    withdraw-book h = rw (plant, unlike s b (bookFault b) refl, like) (first-given (bookFault b) _ h)
 
     -- or, the book being accepted, 6, and for a good mask 7 or 0
     module _ (book : bookFault b ≡ 0) where
@@ -116,3 +120,28 @@ module _ (b : List ℕ) (x i : ℕ) where
   pub consult-number : bookFault b ≡ 0 → consultFault b x i ≡ when (leb (bookStates b) x || leb (bookGoals b) i) 8
   unfolding consultFault
   consult-number h = rw h
+
+-- the call for all good moves returns the plant's own answer
+pub moves-plant : (s b : List ℕ) (x i : ℕ) → (plantFault s ≡ 0 → ⊥) → movesFault s b x i ≡ plantFault s
+unfolding movesFault
+moves-plant s b x i h = first-given (plantFault s) _ h
+
+-- a call on a book returns 4 just when the book's own answer is 4
+first-4 : (a : ℕ) (t : Bool) → eqb a 4 ≡ eqb (firstOf a (when t 8)) 4
+first-4 zero true = refl
+first-4 zero false = refl
+first-4 (suc a) t = refl
+
+consult-4 : (b : List ℕ) (x i : ℕ) → eqb (bookFault b) 4 ≡ eqb (consultFault b x i) 4
+unfolding consultFault
+consult-4 b x i = first-4 (bookFault b) (leb (bookStates b) x || leb (bookGoals b) i)
+
+-- or, the plant being accepted, 4 as withdraw does, or what any call on the book returns
+module _ (s b : List ℕ) (x i : ℕ) (plant : plantFault s ≡ 0) where
+  pub moves-4 : Unlike s b (consultFault b x i) ≡ true → movesFault s b x i ≡ 4
+  unfolding movesFault
+  moves-4 u = rw (plant, unlike s b (consultFault b x i) (consult-4 b x i), u)
+
+  pub moves-book : Unlike s b (consultFault b x i) ≡ false → movesFault s b x i ≡ consultFault b x i
+  unfolding movesFault
+  moves-book u = rw (plant, unlike s b (consultFault b x i) (consult-4 b x i), u)

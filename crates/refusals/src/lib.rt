@@ -6,7 +6,7 @@ use format::word::number;
 use rows::book_fault;
 ghost use mathlib.Core.Path.{_≡_};
 ghost use Rattle.statements.specs.Plants.{plantOf};
-ghost use Rattle.statements.specs.Calls.{bookRoom, alike, makeFault, withdrawFault, consultFault};
+ghost use Rattle.statements.specs.Calls.{bookRoom, alike, makeFault, withdrawFault, consultFault, movesFault};
 
 // A book buffer is long enough for a plant's book.
 fn book_room(plant: &[u8], room: usize) -> bool
@@ -78,4 +78,19 @@ pub fn consult(book: &[u8], state: u32, goal: u32) -> u8
         return 8;
     }
     0
+}
+
+// What the call for all good moves returns: 1 to 5, 8, or 0 when it is accepted.
+pub fn moves(plant: &[u8], book: &[u8], state: u32, goal: u32) -> u8
+    ensures { λ r. ⌜ r ≡ movesFault (now (plant .entry)) (now (book .entry)) state goal ⌝ }
+{
+    let fault = plant_fault(plant);
+    if fault != 0 {
+        return fault;
+    }
+    let answer = consult(book, state, goal);
+    if (answer == 4) | !alike(plant, book) {
+        return 4;
+    }
+    answer
 }

@@ -1,7 +1,7 @@
 -- The first number at which a test holds: it holds there, at none before, and there is none past the end.
 -- Assumes nothing.
-use mathlib.Core.Path.{_≡_, refl}
-use mathlib.Core.Logic.{_⊎_, ⊎-elim}
+use mathlib.Core.Path.{_≡_, refl, sym, _∙_}
+use mathlib.Core.Logic.{⊎-elim}
 use mathlib.Core.Bool.{Bool, true, false}
 use Prim.Native.Nat.{ℕ, zero, suc, _+_, _≤_, _<_}
 use native.Mathlib.Omega.{arith}
@@ -57,3 +57,14 @@ first-before n x test k l h =
     (λ t. absurd (let r = first-range n x test in omega (arith, first-least n x test k l (omega arith) t)))
     (λ e. e)
     (decided (test k))
+
+-- two tests that agree in the range have the same first
+pub first-alike : (n x : ℕ) (a b : ℕ → Bool) → ((k : ℕ) → x ≤ k → k < x + n → a k ≡ b k) → first n x a ≡ first n x b
+first-alike zero x a b h = first-none x a ∙ sym (first-none x b)
+first-alike (suc n) x a b h =
+    let later = first-alike n (suc x) a b (λ k l m. h k (omega arith) (omega arith)) in
+    let here = h x (omega arith) (omega arith) in
+    ⊎-elim
+    (λ e. first-yes n x a e ∙ sym (first-yes n x b (sym here ∙ e)))
+    (λ e. first-no n x a e ∙ later ∙ sym (first-no n x b (sym here ∙ e)))
+    (decided (a x))

@@ -2,6 +2,7 @@ pub mod Tests
 pub mod Members
 pub mod Numbers
 pub mod First
+pub mod Bits
 pub mod Iterate
 pub mod Joined
 pub mod Over

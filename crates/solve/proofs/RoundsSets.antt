@@ -112,7 +112,8 @@ module _ (p : Plant) (mask : ℕ) (all : List ℕ) (set : Sifted (numbers (p .st
         forcedAll-in (p .goals) p mask all x (h .0) (stays-forced x (sifted-below (p .states) all set x (h .0)) (h .1)))
         (λ x m.
         let h = forcedAll-holds (p .goals) p mask all x m in
-        filter-in (stays entries (p .goals)) all x (h .0) (forced-stays x (sifted-below (p .states) all set x (h .0)) (h .1)))
+        filter-in (stays entries (p .goals)) all x (h .0)
+        (forced-stays x (sifted-below (p .states) all set x (h .0)) (h .1)))
 
   module _ (i : ℕ) (waits listed : List ℕ) (is : Column p mask all i waits listed) (old : List ℕ) (few : p .goals ≤ 8)
       (more : i < p .goals) (in-waits : p .states ≤ length waits) (in-listed : p .states ≤ length listed)

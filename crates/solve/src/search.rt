@@ -2,10 +2,12 @@
 ghost use mathlib.Core.Path.{_≡_};
 ghost use Prim.Native.Nat.{_<_, _≤_};
 ghost use lib.ListN.{length};
-ghost use Rattle.statements.specs.Plants.{plantOf, moveInto};
+ghost use Rattle.statements.specs.Sets.{lowest};
+ghost use Rattle.statements.specs.Plants.{plantOf, moveInto, movesInto};
 ghost use Rattle.solve.specs.Given.{Given, below};
 
-// The lowest move of a state all of whose ends have a wait below the limit; `none` if there is none.
+// The lowest move of a state all of whose ends have a wait below the limit; `none` if there is none. It stops at the
+// first, which is the lowest of all such moves.
 pub(crate) fn search(
     plant: &[u8],
     mask: u32,
@@ -18,8 +20,11 @@ pub(crate) fn search(
     requires given { ⌜ Given (now plant) mask (now table) none ⌝ }
     requires waits_long { ⌜ plantOf (now plant) .states ≤ length (now waits) ⌝ }
     requires in_range { ⌜ state < plantOf (now plant) .states ⌝ }
-    ensures { λ r. ⌜ r ≡ moveInto (plantOf (now (plant .entry))) mask
+    ensures first { λ r. ⌜ r ≡ moveInto (plantOf (now (plant .entry))) mask
         (below (now (waits .entry)) limit (plantOf (now (plant .entry)) .states)) state ⌝ }
+    ensures lowest { λ r. ⌜ r ≡ lowest (plantOf (now (plant .entry)) .moves)
+        (movesInto (plantOf (now (plant .entry))) mask
+        (below (now (waits .entry)) limit (plantOf (now (plant .entry)) .states)) state) ⌝ }
 {
     let x = state as usize;
     let mut at = table[x] as usize;

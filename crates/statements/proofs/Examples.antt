@@ -1,24 +1,25 @@
 -- The marked examples hold of the definitions: each is computed. Assumes nothing.
 use mathlib.Core.Path.{refl}
-use Rattle.statements.specs.Sets.{bit, numbers, every, first, joined, iterate, isIn, allIn, filter}
+use Rattle.statements.specs.Sets.{bit, numbers, every, first, bits, joined, iterate, isIn, allIn, filter}
 use Rattle.statements.specs.Plants.{word, labelsFrom, arrowsFrom, plantOf, headOk, labelsOk, rank, arrowsOk}
 use Rattle.statements.specs.Plants.{plantFault, allowed, inGoal, endsIn, ends, available, goesInto, moveInto}
-use Rattle.statements.specs.Plants.{can}
+use Rattle.statements.specs.Plants.{movesInto, can}
 use Rattle.statements.specs.Kept.{grown, target, forced, forcedAll, keptRound, keptWithin, level, waitOf}
 use Rattle.statements.specs.Kept.{nearer, listedMove}
 use Rattle.statements.specs.Books.{two, bytesOf, bookLong, entryOf, rowOf, headOf, bookBytes, bookStates}
 use Rattle.statements.specs.Books.{bookMoves}
 use Rattle.statements.specs.Books.{bookGoals, bookCount, bookMask, waitAt, moveAt, isLost, isHeld, bookKept}
 use Rattle.statements.specs.Books.{maskOk, bookHeadOk, rowsOk, bookFault, nextGoal, lessMask, bookWithin}
+use Rattle.statements.specs.Books.{nearerIn, goodMoves}
 use Rattle.statements.specs.Books.{madeBook, keptBefore, withdrawnBook, droppedStates}
 use Rattle.statements.specs.Calls.{maskFault, bookRoom, dropRoom, makeFault, alike, withdrawFault, consultFault}
 use Rattle.statements.specs.Calls.{rowPart, answerOf, writtenBy, standingAfter, standing, answers, toldOf, told}
-use Rattle.statements.specs.Calls.{putBy, inService}
+use Rattle.statements.specs.Calls.{putBy, inService, movesFault}
 use Rattle.statements.specs.Marked.{plantP, plantStill, plantLoop, plantMay, plantEnd, bookP, lostRow}
-use Rattle.statements.specs.Marked.{bookM1, bookM9, allLost, Marked}
+use Rattle.statements.specs.Marked.{bookM1, bookM2, bookM9, allLost, Marked, Marked-moves}
 
 pub marked : Marked
-unfolding bit numbers every first joined iterate isIn allIn filter word labelsFrom arrowsFrom plantOf headOk labelsOk rank arrowsOk plantFault allowed inGoal endsIn ends available goesInto moveInto can grown target forced forcedAll keptRound keptWithin level waitOf nearer listedMove two bookLong entryOf rowOf headOf bookBytes bookStates bookMoves bookGoals bookCount bookMask waitAt moveAt isLost isHeld bookKept maskOk bookHeadOk rowsOk bookFault nextGoal lessMask bookWithin madeBook keptBefore withdrawnBook droppedStates maskFault bookRoom dropRoom makeFault alike withdrawFault consultFault rowPart answerOf writtenBy standingAfter standing answers toldOf told putBy inService bytesOf plantP plantStill plantLoop plantMay plantEnd bookP lostRow bookM1 bookM9 allLost
+unfolding bit numbers every first joined iterate isIn allIn filter word labelsFrom arrowsFrom plantOf headOk labelsOk rank arrowsOk plantFault allowed inGoal endsIn ends available goesInto moveInto can grown target forced forcedAll keptRound keptWithin level waitOf nearer listedMove two bookLong entryOf rowOf headOf bookBytes bookStates bookMoves bookGoals bookCount bookMask waitAt moveAt isLost isHeld bookKept maskOk bookHeadOk rowsOk bookFault nextGoal lessMask bookWithin madeBook keptBefore withdrawnBook droppedStates maskFault bookRoom dropRoom makeFault alike withdrawFault consultFault rowPart answerOf writtenBy standingAfter standing answers toldOf told putBy inService bytesOf plantP plantStill plantLoop plantMay plantEnd bookP lostRow bookM1 bookM2 bookM9 allLost
 marked =
     record {
       m1 = record { accepted = refl; short = refl; book = refl };
@@ -33,4 +34,20 @@ marked =
       m10-first = record { accepted = refl; move-is = refl; wait-is = refl; seek-is = refl };
       m10-second = record { accepted = refl; move-is = refl; wait-is = refl; seek-is = refl };
       m11 = record { accepted = refl; short = refl; book = refl };
+    }
+
+pub marked-moves : Marked-moves
+unfolding bit numbers every isIn allIn filter bits word labelsFrom arrowsFrom plantOf headOk labelsOk rank arrowsOk plantFault endsIn ends available goesInto movesInto two bookLong bookStates bookMoves bookGoals bookCount bookMask waitAt moveAt isLost isHeld bookKept maskOk bookHeadOk rowsOk bookFault nearerIn goodMoves alike consultFault movesFault bytesOf plantP plantMay bookP lostRow bookM1 bookM2 bookM9
+marked-moves =
+    record {
+      at-goal = record { accepted = refl; moves-are = refl };
+      on-the-way = record { accepted = refl; moves-are = refl };
+      no-nearer = record { accepted = refl; moves-are = refl };
+      withdrawn = record { accepted = refl; moves-are = refl };
+      lost = record { accepted = refl; moves-are = refl };
+      partly = record { accepted = refl; moves-are = refl };
+      empty = record { accepted = refl; moves-are = refl };
+      no-state = refl;
+      no-goal = refl;
+      unlike = refl;
     }

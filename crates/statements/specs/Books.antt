@@ -6,7 +6,7 @@ use lib.Dec.{eqb, ltb, leb}
 use lib.ListN.{length, drop}
 use lib.Bits.{bitAnd}
 use Rattle.statements.specs.Sets.{pick, bit, numbers, every, joined, isIn, filter}
-use Rattle.statements.specs.Plants.{word, firstOf, when, Plant, allowed}
+use Rattle.statements.specs.Plants.{word, firstOf, when, Plant, allowed, movesInto}
 use Rattle.statements.specs.Kept.{keptWithin, waitOf, listedMove}
 
 -- a two-byte number's bytes, the low one first
@@ -114,6 +114,15 @@ bookFault b = firstOf (when (not (bookHeadOk b)) 4) (when (not (rowsOk b)) 5)
 -- the goal to seek next: the same one, or at wait 0 the next, after the last the first
 unfoldable pub nextGoal : List ℕ → ℕ → ℕ → ℕ
 nextGoal b x i = pick (eqb (waitAt b x i) 0) (pick (eqb (suc i) (bookGoals b)) 0 (suc i)) i
+
+-- where a move may lead by the rule of the entry of state x and goal i, read on a book's own rows: to the states that
+-- it keeps, above wait 0 to those with a smaller wait
+unfoldable pub nearerIn : List ℕ → ℕ → ℕ → List ℕ
+nearerIn b x i = filter (λ y. eqb (waitAt b x i) 0 || ltb (waitAt b y i) (waitAt b x i)) (bookKept b)
+
+-- all moves of a book's mask that meet the rule, as a mask (a permissive strategy); none in a lost state
+unfoldable pub goodMoves : Plant → List ℕ → ℕ → ℕ → ℕ
+goodMoves p b x i = pick (isLost b x) 0 (movesInto p (bookMask b) (nearerIn b x i) x)
 
 -- the bits of a mask that are not in another
 unfoldable pub lessMask : ℕ → ℕ → ℕ

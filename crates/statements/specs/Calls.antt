@@ -43,6 +43,12 @@ withdrawFault s b gone room drops =
 unfoldable pub consultFault : List ℕ → ℕ → ℕ → ℕ
 consultFault b x i = firstOf (bookFault b) (when (leb (bookStates b) x || leb (bookGoals b) i) 8)
 
+-- what the call for all good moves answers for a plant's bytes, a book, a state and a goal: 1 to 5 as in withdraw, 8,
+-- or 0
+unfoldable pub movesFault : List ℕ → List ℕ → ℕ → ℕ → ℕ
+movesFault s b x i =
+    firstOf (plantFault s) (firstOf (when (not (bookHeadOk b && alike (plantOf s) b)) 4) (consultFault b x i))
+
 -- the part of a book that row hands back; empty when refused
 unfoldable pub rowPart : List ℕ → ℕ → List ℕ
 rowPart b x =

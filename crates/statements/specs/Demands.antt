@@ -5,19 +5,28 @@ use mathlib.Core.Bool.{true, false}
 use mathlib.Core.List.{List}
 use Prim.Native.Nat.{ℕ, _≤_, _<_}
 use lib.ListN.{length, getD}
-use Rattle.statements.specs.Sets.{isIn}
+use Rattle.statements.specs.Sets.{bit, lowest, isIn}
 use Rattle.statements.specs.Plants.{word, Plant, plantOf, allowed, ends, available}
 use Rattle.statements.specs.Books.{bookLong, bookStates, bookMoves, bookGoals, bookCount, bookMask, waitAt}
-use Rattle.statements.specs.Books.{moveAt, isLost, bookKept, lessMask, keptBefore, madeBook}
+use Rattle.statements.specs.Books.{moveAt, isLost, bookKept, goodMoves, lessMask, keptBefore, madeBook}
 use Rattle.statements.specs.Books.{withdrawnBook, droppedStates}
 use Rattle.statements.specs.Calls.{makeFault, withdrawFault, Call, standing, answers, told, inService}
-use Rattle.statements.specs.Strategies.{Wins-by, Wins, Forces, following}
+use Rattle.statements.specs.Strategies.{Wins-by, Wins, Forces, following, Picks, Serves}
 
--- u is the lowest available move in x all of whose arrows end in states with a property
-pub record Lowest (p : Plant) (mask x : ℕ) (good : ℕ → Type 0) (u : ℕ) : Type 0 where
+-- move u is available in x, and all its arrows end in states with a property
+pub record Meets (p : Plant) (mask x : ℕ) (good : ℕ → Type 0) (u : ℕ) : Type 0 where
   pub is-available : available p mask x u ≡ true
   pub ends-well : (y : ℕ) → isIn y (ends p x u) ≡ true → good y
-  pub none-lower : (v : ℕ) → v < u → available p mask x v ≡ true → ((y : ℕ) → isIn y (ends p x v) ≡ true → good y) → ⊥
+
+-- it is the lowest such move
+pub record Lowest (p : Plant) (mask x : ℕ) (good : ℕ → Type 0) (u : ℕ) : Type 0 where
+  pub meets : Meets p mask x good u
+  pub none-lower : (v : ℕ) → v < u → Meets p mask x good v → ⊥
+
+-- document 01's rule of the entry of x and goal i in a book b, for the ends of a move: kept states, above wait 0 those
+-- with a smaller wait
+abbrev pub Nearer : Plant → ℕ → (ℕ → Type 0) → List ℕ → ℕ → ℕ → ℕ → Type 0
+Nearer p mask within b x i y = Wins p mask within y × (0 < waitAt b x i → waitAt b y i < waitAt b x i)
 
 -- document 01, "The book's bytes", in its own words: b is the book for a plant, the moves in service and the set that
 -- strategies may not leave. A state is kept when a strategy wins from it.
@@ -40,7 +49,7 @@ pub record IsBook (p : Plant) (mask : ℕ) (within : ℕ → Type 0) (b : List �
       (waitAt b x i ≤ n) ↔ Forces p mask (Wins p mask within) x i n
   -- its move is the lowest available one into kept states, above wait 0 into those with a smaller wait
   pub move : (x i : ℕ) → x < p .states → i < p .goals → Wins p mask within x →
-      Lowest p mask x (λ y. Wins p mask within y × (0 < waitAt b x i → waitAt b y i < waitAt b x i)) (moveAt b x i)
+      Lowest p mask x (Nearer p mask within b x i) (moveAt b x i)
 
 -- the sets that strategies may not leave: in a making the allowed states, in a withdrawal those of them that the book
 -- handed in keeps
@@ -54,7 +63,7 @@ KeptBefore p b x = keptBefore p b x ≡ true
 abbrev pub Rising : List ℕ → Type 0
 Rising xs = (j k : ℕ) → j < k → k < length xs → getD xs j 0 < getD xs k 0
 
--- what demand 2 says of the book b written for a plant with moves in service and a set not to be left
+-- what demand 2 and request (i) say of the book b written for a plant with moves in service and a set not to be left
 pub record Right (p : Plant) (mask : ℕ) (within : ℕ → Type 0) (b : List ℕ) : Type 0 where
   pub is-book : IsBook p mask within b
   -- and of no other list of bytes
@@ -64,6 +73,15 @@ pub record Right (p : Plant) (mask : ℕ) (within : ℕ → Type 0) (b : List �
   -- following the book from a kept state and any first goal wins without leaving kept states
   pub follows : (x goal : ℕ) → x < p .states → goal < p .goals → isLost b x ≡ false →
       Wins-by p mask (Wins p mask within) x (following b goal)
+  -- the set of an entry has exactly the moves that meet its rule, and none in a lost state
+  pub set : (x i u : ℕ) → x < p .states → i < p .goals →
+      (bit u (goodMoves p b x i) ≡ true) ↔ (Wins p mask within x × Meets p mask x (Nearer p mask within b x i) u)
+  -- the set of a kept state is not empty, and the listed move is its lowest
+  pub listed : (x i : ℕ) → x < p .states → i < p .goals → isLost b x ≡ false →
+      (bit (moveAt b x i) (goodMoves p b x i) ≡ true) × (moveAt b x i ≡ lowest (p .moves) (goodMoves p b x i))
+  -- any pick from the set, made anew at each step, serves, from any first goal
+  pub picks : (states goals moves : ℕ → ℕ) → goals 0 < p .goals → Picks p b states goals moves →
+      Serves p b states goals
 
 -- demand 2: kept states, waits and moves are those of strategies over whole histories
 pub record Demand-2 : Type 0 where
@@ -85,6 +103,10 @@ pub record Demand-3 : Type 0 where
   -- the standing book is that of a making afresh with the moves in service
   pub as-afresh : (s : List ℕ) (mask room : ℕ) (calls : List Call) → makeFault s mask room ≡ 0 →
       standing s (madeBook (plantOf s) mask) calls ≡ madeBook (plantOf s) (inService (plantOf s) mask calls)
+  -- so that demand 2 and request (i) hold of it
+  pub right : (s : List ℕ) (mask room : ℕ) (calls : List Call) → makeFault s mask room ≡ 0 →
+      Right (plantOf s) (inService (plantOf s) mask calls) (Allowed (plantOf s))
+      (standing s (madeBook (plantOf s) mask) calls)
   -- each call's answer is told from the calls alone
   pub told-alone : (s : List ℕ) (mask room : ℕ) (calls : List Call) → makeFault s mask room ≡ 0 →
       answers s (madeBook (plantOf s) mask) calls ≡ told (plantOf s) calls

@@ -1,10 +1,12 @@
--- The marked examples M1 to M11 of document 01 as one table. Plants and books are written as their two-byte numbers.
+-- The marked examples M1 to M11 of document 01 as one table, and a second one for request (i). Plants and books are
+-- written as their two-byte numbers.
 use mathlib.Core.Path.{_≡_}
 use mathlib.Core.List.{List, [], _∷_, _++_}
 use Prim.Native.Nat.{ℕ, _-_}
 use Rattle.statements.specs.Plants.{plantOf}
-use Rattle.statements.specs.Books.{bytesOf, waitAt, moveAt, nextGoal, madeBook, withdrawnBook, droppedStates}
-use Rattle.statements.specs.Calls.{makeFault, withdrawFault, consultFault}
+use Rattle.statements.specs.Books.{bytesOf, waitAt, moveAt, nextGoal, goodMoves, madeBook}
+use Rattle.statements.specs.Books.{withdrawnBook, droppedStates}
+use Rattle.statements.specs.Calls.{makeFault, withdrawFault, consultFault, movesFault}
 
 -- strip plant P: header, labels 3 1 5 0, then the eight arrows
 unfoldable pub plantP : List ℕ
@@ -34,9 +36,12 @@ bookP count mask rows = bytesOf (4 ∷ 3 ∷ 2 ∷ count ∷ mask ∷ 0 ∷ 16 �
 unfoldable pub lostRow : List ℕ
 lostRow = 65535 ∷ 65535 ∷ 65535 ∷ 65535 ∷ []
 
--- the book of M1, and that book with row 1 set to lost and K 2
+-- the books of M1 and M2, and that of M1 with row 1 set to lost and K 2
 unfoldable pub bookM1 : List ℕ
 bookM1 = bookP 3 7 (0 ∷ 0 ∷ 2 ∷ 0 ∷ 1 ∷ 2 ∷ 1 ∷ 0 ∷ 1 ∷ 0 ∷ 0 ∷ 0 ∷ lostRow)
+
+unfoldable pub bookM2 : List ℕ
+bookM2 = bookP 3 3 (0 ∷ 0 ∷ 2 ∷ 0 ∷ 2 ∷ 0 ∷ 1 ∷ 0 ∷ 1 ∷ 0 ∷ 0 ∷ 0 ∷ lostRow)
 
 unfoldable pub bookM9 : List ℕ
 bookM9 = bookP 2 7 (0 ∷ 0 ∷ 2 ∷ 0 ∷ (lostRow ++ (1 ∷ 0 ∷ 0 ∷ 0 ∷ lostRow)))
@@ -67,7 +72,7 @@ pub record Consults (b : List ℕ) (x i move wait seek : ℕ) : Type 0 where
 
 pub record Marked : Type 0 where
   pub m1 : Makes plantP 7 48 bookM1
-  pub m2 : Withdraws bookM1 4 (bookP 3 3 (0 ∷ 0 ∷ 2 ∷ 0 ∷ 2 ∷ 0 ∷ 1 ∷ 0 ∷ 1 ∷ 0 ∷ 0 ∷ 0 ∷ lostRow)) []
+  pub m2 : Withdraws bookM1 4 bookM2 []
   pub m3 : Withdraws bookM1 1 (allLost 6) (0 ∷ 1 ∷ 2 ∷ [])
   pub m4 : Withdraws bookM1 2 (bookP 3 5 (0 ∷ 0 ∷ 2 ∷ 0 ∷ 1 ∷ 2 ∷ 1 ∷ 0 ∷ 1 ∷ 0 ∷ 0 ∷ 0 ∷ lostRow)) []
   pub m5 : Makes plantStill 1 20 (bytesOf (1 ∷ 1 ∷ 1 ∷ 0 ∷ 1 ∷ 0 ∷ 16 ∷ 20 ∷ 65535 ∷ 65535 ∷ []))
@@ -78,3 +83,26 @@ pub record Marked : Type 0 where
   pub m10-first : Consults bookM1 0 1 0 2 1
   pub m10-second : Consults bookM1 2 1 0 0 0
   pub m11 : Makes plantEnd 1 24 (bytesOf (2 ∷ 1 ∷ 1 ∷ 0 ∷ 1 ∷ 0 ∷ 16 ∷ 24 ∷ 65535 ∷ 65535 ∷ 65535 ∷ 65535 ∷ []))
+
+-- the call for all good moves on P, a book, a state and a goal is accepted and gives this mask
+pub record Gives (b : List ℕ) (x i mask : ℕ) : Type 0 where
+  pub accepted : movesFault plantP b x i ≡ 0
+  pub moves-are : goodMoves (plantOf plantP) b x i ≡ mask
+
+pub record Marked-moves : Type 0 where
+  -- at wait 0 every move into kept states, above it every move into smaller waits
+  pub at-goal : Gives bookM1 2 1 5
+  pub on-the-way : Gives bookM1 0 1 3
+  -- not one into a kept state that is no nearer, or into a lost one
+  pub no-nearer : Gives bookM1 1 0 4
+  -- not one that is out of service
+  pub withdrawn : Gives bookM2 2 1 1
+  -- none in a lost state
+  pub lost : Gives bookM1 3 0 0
+  -- in a book that nobody made: state 1 is lost there, so the set may leave out the listed move, and be empty
+  pub partly : Gives bookM9 2 1 1
+  pub empty : Gives bookM9 0 0 0
+  -- refused: a state and a goal past the last, before them a book for another plant
+  pub no-state : movesFault plantP bookM1 4 0 ≡ 8
+  pub no-goal : movesFault plantP bookM1 3 2 ≡ 8
+  pub unlike : movesFault plantMay bookM1 4 0 ≡ 4

@@ -5,7 +5,7 @@ use mathlib.Core.List.{List, [], _∷_}
 use Prim.Native.Nat.{ℕ, zero, suc, _+_, _*_, _^_}
 use lib.Dec.{eqb, ltb, leb}
 use lib.ListN.{length, getD, drop}
-use Rattle.statements.specs.Sets.{bit, consIf, allIn, first}
+use Rattle.statements.specs.Sets.{bit, consIf, allIn, first, bits}
 
 -- number i of a list of bytes read as two-byte numbers, the low byte first
 unfoldable pub word : ℕ → List ℕ → ℕ
@@ -116,6 +116,10 @@ goesInto p mask ys x u = available p mask x u && allIn (ends p x u) ys
 -- the lowest such move; the number of moves if there is none
 unfoldable pub moveInto : Plant → ℕ → List ℕ → ℕ → ℕ
 moveInto p mask ys x = first (p .moves) 0 (goesInto p mask ys x)
+
+-- all of them, as a mask
+unfoldable pub movesInto : Plant → ℕ → List ℕ → ℕ → ℕ
+movesInto p mask ys x = bits (p .moves) 0 (goesInto p mask ys x)
 
 -- there is one: the state is in the controllable predecessor of the set
 unfoldable pub can : Plant → ℕ → List ℕ → ℕ → Bool

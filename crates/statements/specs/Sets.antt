@@ -1,7 +1,7 @@
 -- Numbers, bits and finite sets: the small vocabulary of the other files. Assumes nothing.
 use mathlib.Core.Bool.{Bool, true, false, _&&_, _||_}
 use mathlib.Core.List.{List, [], _∷_, _++_}
-use Prim.Native.Nat.{ℕ, zero, suc, _+_, _/_, _%_, _^_}
+use Prim.Native.Nat.{ℕ, zero, suc, _+_, _*_, _/_, _%_, _^_}
 use lib.Dec.{eqb}
 use lib.ListN.{length, drop}
 
@@ -28,6 +28,15 @@ every (suc n) x test = test x && every n (suc x) test
 unfoldable pub first : ℕ → ℕ → (ℕ → Bool) → ℕ
 first zero x test = x
 first (suc n) x test = elim (test x) [ true ↦ x | false ↦ first n (suc x) test ]
+
+-- the mask of the n numbers from x on at which the test holds: its bit i is for number x + i
+unfoldable pub bits : ℕ → ℕ → (ℕ → Bool) → ℕ
+bits zero x test = 0
+bits (suc n) x test = pick (test x) 1 0 + 2 * bits n (suc x) test
+
+-- the lowest number below n in a mask; n if there is none
+unfoldable pub lowest : ℕ → ℕ → ℕ
+lowest n mask = first n 0 (λ i. bit i mask)
 
 -- the lists that a function gives at the n numbers from x on, one after the other
 unfoldable pub joined : ℕ → ℕ → (ℕ → List ℕ) → List ℕ

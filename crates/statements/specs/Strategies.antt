@@ -4,10 +4,10 @@ use mathlib.Core.Path.{_≡_}
 use mathlib.Core.Bool.{true, false}
 use mathlib.Core.List.{List, [], _∷_}
 use mathlib.Core.Option.{Option, none, some}
-use Prim.Native.Nat.{ℕ, zero, suc, _≤_, _<_}
-use Rattle.statements.specs.Sets.{isIn}
+use Prim.Native.Nat.{ℕ, zero, suc, _+_, _≤_, _<_}
+use Rattle.statements.specs.Sets.{bit, isIn}
 use Rattle.statements.specs.Plants.{Plant, inGoal, ends, available}
-use Rattle.statements.specs.Books.{moveAt, isLost, nextGoal}
+use Rattle.statements.specs.Books.{waitAt, moveAt, isLost, nextGoal, goodMoves}
 
 -- a state that was passed and the move made there
 pub record Turn : Type 0 where
@@ -74,3 +74,19 @@ soughtAfter b goal (t ∷ past) = nextGoal b (t .state) (soughtAfter b goal past
 unfoldable pub following : List ℕ → ℕ → List Turn → ℕ → Option ℕ
 following b goal past x =
     elim (isLost b x) [ true ↦ none | false ↦ some (moveAt b x (soughtAfter b goal past)) ]
+
+-- picking from a book: an endless sequence of states, goals sought and moves. Each move is any one that meets the rule
+-- for its state and goal, for whatever reason it was picked; the next state is the end of one of its arrows, and the
+-- next goal the one that consult says
+pub record Picks (p : Plant) (b : List ℕ) (states goals moves : ℕ → ℕ) : Type 0 where
+  pub good : (n : ℕ) → bit (moves n) (goodMoves p b (states n) (goals n)) ≡ true
+  pub leads : (n : ℕ) → isIn (states (suc n)) (ends p (states n) (moves n)) ≡ true
+  pub seeks : (n : ℕ) → goals (suc n) ≡ nextGoal b (states n) (goals n)
+
+-- such a sequence serves: all its states are kept in the book, the goal sought at any moment is met within the wait
+-- shown there, and each goal is met again and again
+pub record Serves (p : Plant) (b : List ℕ) (states goals : ℕ → ℕ) : Type 0 where
+  pub kept : (n : ℕ) → (states n < p .states) × (isLost b (states n) ≡ false)
+  pub in-time : (n : ℕ) →
+      (m : ℕ) × (n ≤ m) × (m ≤ n + waitAt b (states n) (goals n)) × (inGoal p (goals n) (states m) ≡ true)
+  pub again : (i n : ℕ) → i < p .goals → (m : ℕ) × (n ≤ m) × (inGoal p i (states m) ≡ true)

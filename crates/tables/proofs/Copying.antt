@@ -8,7 +8,8 @@ use lib.ListN.{length, set, length-append}
 use lib.Seq.{sets, length-sets}
 use Rattle.statements.specs.Plants.{Arrow, Plant, endsIn}
 use Rattle.tables.specs.Filling.{Rising}
-use Rattle.tables.proofs.Order.{ends-match, rising-after, rising-past, rising-none}
+use Rattle.format.proofs.Stored.{ends-match}
+use Rattle.tables.proofs.Order.{rising-after, rising-past, rising-none}
 use Rattle.sets.proofs.Over.{sets-append, sets-before}
 
 -- of the arrows those left are not copied yet; n ends are

@@ -15,8 +15,9 @@ use Rattle.sets.proofs.Tests.{and-iff}
 use Rattle.sets.proofs.Joined.{joined-length}
 use Rattle.decoding.proofs.Faults.{plant-tests, plant-ok}
 use Rattle.tables.specs.Table.{groupsOf, placeOf, tableOf}
-use Rattle.tables.specs.Filling.{arrowsLeft, Begins}
-use Rattle.tables.proofs.Order.{arrows-length}
+use Rattle.format.specs.Arrows.{arrowsLeft}
+use Rattle.format.proofs.Stored.{arrows-length}
+use Rattle.tables.specs.Filling.{Begins}
 use Rattle.sets.proofs.Joined.{joined-split, joined-more}
 use Rattle.tables.proofs.Grouping.{table-few}
 use Rattle.sets.proofs.Over.{sets-append, sets-before, sets-over}

@@ -12,10 +12,10 @@ use borrow.Author.Tests.{le-leb}
 use Rattle.statements.specs.Sets.{pick, bit, joined}
 use Rattle.statements.specs.Plants.{Arrow, Plant, endsIn, ends, available}
 use Rattle.sets.proofs.Tests.{same-number}
+use Rattle.format.proofs.Stored.{ends-match, ends-from, ends-move}
 use Rattle.tables.specs.Table.{groupOf, groupsOf}
 use Rattle.tables.specs.Filling.{Rising}
-use Rattle.tables.proofs.Order.{ends-match, ends-from, ends-move, rising-none, rising-passed}
-use Rattle.tables.proofs.Order.{rising-state-none}
+use Rattle.tables.proofs.Order.{rising-none, rising-passed, rising-state-none}
 use Rattle.sets.proofs.Joined.{joined-same, joined-none, joined-first, joined-longer}
 
 -- a group of some ends

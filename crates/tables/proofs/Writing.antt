@@ -9,11 +9,11 @@ use lib.Seq.{sets, length-sets}
 use Rattle.statements.specs.Sets.{bit}
 use Rattle.statements.specs.Plants.{word, plantOf, endsIn, ends}
 use Rattle.format.specs.declared.arrows.Arrow.{Arrow as ReadArrow}
-use Rattle.format.specs.Arrows.{arrowIn}
+use Rattle.format.specs.Arrows.{arrowIn, arrowsLeft}
+use Rattle.format.proofs.Stored.{asArrow, left-more, left-none, left-past, ends-match, ends-from}
 use Rattle.tables.specs.Table.{groupsOf}
-use Rattle.tables.specs.Filling.{arrowsLeft, Rising, Begins}
-use Rattle.tables.proofs.Order.{Passed, asArrow, left-more, left-none, left-past, ends-match, ends-from}
-use Rattle.tables.proofs.Order.{rising-next, rising-after, rising-state, rising-here, rising-passed}
+use Rattle.tables.specs.Filling.{Rising, Begins}
+use Rattle.tables.proofs.Order.{Passed, rising-next, rising-after, rising-state, rising-here, rising-passed}
 use Rattle.tables.proofs.Order.{rising-further, rising-nil}
 use Rattle.tables.proofs.Grouping.{groupsIn, groups-all, groups-same, groups-none, groups-skip, groups-group}
 use Rattle.sets.proofs.Over.{sets-append}

@@ -1,14 +1,11 @@
--- The plant's arrows while the table is filled: those left from an arrow on, and where those of a state begin.
+-- The plant's arrows while the table is filled: in their order from a state and a move on, and where those of a state
+-- begin.
 use mathlib.Core.Path.{_≡_}
 use mathlib.Core.Bool.{true}
 use mathlib.Core.List.{List}
 use Prim.Native.Nat.{ℕ, _+_, _*_, _≤_}
-use lib.ListN.{drop}
 use Rattle.statements.specs.Plants.{Arrow, Plant, plantOf, arrowsOk, endsIn, ends}
-
--- the arrows from arrow k on
-unfoldable pub arrowsLeft : List ℕ → ℕ → List Arrow
-arrowsLeft s k = drop k (plantOf s .arrows)
+use Rattle.format.specs.Arrows.{arrowsLeft}
 
 -- arrows in range and in their order, none of them before those of state x and move u
 pub record Rising (p : Plant) (x u : ℕ) (arrows : List Arrow) : Type 0 where

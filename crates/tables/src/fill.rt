@@ -9,8 +9,9 @@ ghost use lib.ListN.{length};
 ghost use lib.Seq.{sets};
 ghost use Rattle.statements.specs.Sets.{over};
 ghost use Rattle.statements.specs.Plants.{plantOf, plantFault, endsIn};
+ghost use Rattle.format.specs.Arrows.{arrowsLeft};
 ghost use Rattle.tables.specs.Table.{groupsOf, tableOf};
-ghost use Rattle.tables.specs.Filling.{arrowsLeft, Rising, Begins};
+ghost use Rattle.tables.specs.Filling.{Rising, Begins};
 
 // What is past the groups of a state: the next arrow, and the next place.
 pub(crate) struct Past {

@@ -1,5 +1,7 @@
--- Laws of strategies over any set of states: each file leans on Runs alone. Assumes nothing.
+-- Laws of strategies over any set of states, and of goals sought along any sequence of states. Assumes nothing.
 pub mod Runs
 pub mod Winners
+pub mod Goals
+pub mod Seeking
 pub mod Following
 pub mod Fewest

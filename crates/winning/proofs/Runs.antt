@@ -1,16 +1,15 @@
--- Runs of a strategy: an opponent who answers every move makes one, a larger set is easier to stay in, and a measure
--- that falls until something is met has it met. A run is built turn by turn from the strategy's pick and the answer to
--- it. Assumes nothing.
+-- Runs of a strategy: an opponent who answers every move makes one, and a larger set is easier to stay in. A run is
+-- built turn by turn from the strategy's pick and the answer to it. Assumes nothing.
 use mathlib.Core.Path.{_≡_, refl}
-use mathlib.Core.Logic.{_↔_, _⊎_, inl, inr}
+use mathlib.Core.Logic.{_↔_}
 use mathlib.Core.Bool.{true}
 use mathlib.Core.List.{List, [], _∷_}
-use Prim.Native.Nat.{ℕ, zero, suc, _+_, _≤_, _<_}
-use native.Mathlib.Omega.{arith}
+use Prim.Native.Nat.{ℕ, zero, suc}
 use Rattle.statements.specs.Sets.{isIn}
 use Rattle.statements.specs.Plants.{Plant, ends, available}
 use Rattle.statements.specs.Strategies.{Turn, Strategy, PicksMove, Play, turns, Run}
 use Rattle.statements.specs.Strategies.{Holds-by, Wins-by, Wins, Forces}
+use Rattle.statements.specs.Demands.{Meets}
 
 -- a state reached at moment n, the turns that led there, and what is known of it
 record Reached (p : Plant) (mask start : ℕ) (f : Strategy) (Inv : ℕ → Type 0) : Type 0 where
@@ -96,6 +95,13 @@ module _ (p : Plant) (mask : ℕ) (within more : ℕ → Type 0) (larger : (y : 
   pub forces-larger : (i n : ℕ) → Forces p mask within x i n → Forces p mask more x i n
   forces-larger i n w = (w .0, record { holds = holds-larger (w .0) (w .1 .holds); in-time = w .1 .in-time })
 
+-- a move whose arrows end in states with a property ends in states with a wider one
+pub meets-larger :
+    (p : Plant) (mask x u : ℕ) (good other : ℕ → Type 0) → ((y : ℕ) → good y → other y) →
+    Meets p mask x good u → Meets p mask x other u
+meets-larger p mask x u good other larger h =
+    record { is-available = h .is-available; ends-well = λ y m. larger y (h .ends-well y m) }
+
 module _ (p : Plant) (mask : ℕ) (within other : ℕ → Type 0) (same : (y : ℕ) → within y ↔ other y) (x : ℕ) where
   -- a strategy forces a goal in time within a set exactly when one does within another set of the same states
   pub forces-same : (i n : ℕ) → Forces p mask within x i n ↔ Forces p mask other x i n
@@ -107,45 +113,3 @@ module _ (p : Plant) (mask : ℕ) (within other : ℕ → Type 0) (same : (y : �
 -- a state from which a strategy wins without leaving a set is in the set
 pub wins-within : (p : Plant) (mask : ℕ) (within : ℕ → Type 0) (x : ℕ) → Wins p mask within x → within x
 wins-within p mask within x w = w .1 .holds .stays [] x refl
-
--- a measure that falls at every moment until something is met has it met within as many moments
-pub falls :
-    (met : ℕ → Type 0) (μ : ℕ → ℕ) → ((n : ℕ) → met n ⊎ (μ (suc n) < μ n)) →
-    (n : ℕ) → (m : ℕ) × (n ≤ m) × (m ≤ n + μ n) × met m
-falls met μ step n = go (suc (μ n)) n (omega arith)
-  where
-    go : (k n : ℕ) → μ n < k → (m : ℕ) × (n ≤ m) × (m ≤ n + μ n) × met m
-    go zero n h = absurd (omega arith)
-    go (suc k) n h =
-        elim (step n) [
-          | inl e ↦ (n, omega arith, omega arith, e)
-          | inr l ↦
-              let r = go k (suc n) (omega arith) in
-              (r .0, omega arith, omega arith, r .3)
-        ]
-
--- it is met, too, where the measure may rise whenever another one falls that never rises
-pub falls-by-two :
-    (met : ℕ → Type 0) (far wait : ℕ → ℕ) →
-    ((n : ℕ) → met n ⊎ ((far (suc n) < far n) ⊎ ((far (suc n) ≡ far n) × (wait (suc n) < wait n)))) →
-    (n : ℕ) → (m : ℕ) × (n ≤ m) × met m
-falls-by-two met far wait step n = nearing (suc (far n)) n (omega arith)
-  where
-    waiting :
-        (d : ℕ) → ((n : ℕ) → far n < d → (m : ℕ) × (n ≤ m) × met m) →
-        (w n : ℕ) → far n ≤ d → wait n < w → (m : ℕ) × (n ≤ m) × met m
-    waiting d lower zero n h l = absurd (omega arith)
-    waiting d lower (suc w) n h l =
-        elim (step n) [
-          | inl e ↦ (n, omega arith, e)
-          | inr (inl c) ↦
-              let r = lower (suc n) (omega arith) in
-              (r .0, omega arith, r .2)
-          | inr (inr c) ↦
-              let r = waiting d lower w (suc n) (omega arith) (omega arith) in
-              (r .0, omega arith, r .2)
-        ]
-
-    nearing : (d n : ℕ) → far n < d → (m : ℕ) × (n ≤ m) × met m
-    nearing zero n h = absurd (omega arith)
-    nearing (suc d) n h = waiting d (nearing d) (suc (wait n)) n (omega arith) (omega arith)

@@ -21,7 +21,7 @@ returns : tie.Need-returns
 returns c =
     let a = entry (c .before .before) .args in
     step-later (plantOf (now (a .plant))) (a .mask) (a .goal) (now (a .member)) (now (a .waits)) (a .steps) (a .state)
-    (c .before .if1 .taken) (c .search .ensures)
+    (c .before .if1 .taken) (c .search .ensures .0)
 
 in-goal-requires : tie.Need-in-goal-requires
 in-goal-requires c κs = search needs
@@ -36,7 +36,7 @@ returns-2 c =
     let goal = c .before .before in
     let a = entry (goal .before .before) .args in
     step-first (plantOf (now (a .plant))) (a .mask) (a .goal) (now (a .member)) (now (a .waits)) (a .steps) (a .state)
-    (goal .before .if1 .left) (sym (goal .in-goal .ensures) ∙ c .before .if2 .taken) (c .search2 .ensures)
+    (goal .before .if1 .left) (sym (goal .in-goal .ensures) ∙ c .before .if2 .taken) (c .search2 .ensures .0)
 
 returns-3 : tie.Need-returns-3
 returns-3 c =

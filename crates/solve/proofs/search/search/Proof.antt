@@ -1,11 +1,13 @@
 -- `solve::search::search` meets its contract: at each group the moves left decide which move is found, and at each end
 -- of a move the ends left decide whether it goes below the limit. Assumes nothing.
-use mathlib.Core.Path.{sym, _∙_}
-use Prim.Native.Nat.{_+_, _-_, _≤_, _<_}
+use mathlib.Core.Path.{_≡_, sym, _∙_}
+use Prim.Native.Nat.{ℕ, _+_, _-_, _≤_, _<_}
 use native.Mathlib.Omega.{arith}
 use lib.ListN.{getD, length}
 use borrow.Author.Tests.{lt-ltb, le-ltb}
-use Rattle.statements.specs.Plants.{plantOf}
+use Rattle.statements.specs.Sets.{lowest}
+use Rattle.statements.specs.Plants.{plantOf, moveInto, movesInto}
+use Rattle.kept.proofs.Moves.{moves-lowest}
 use Rattle.decoding.proofs.Faults.{plant-ok}
 use Rattle.solve.specs.Given.{below}
 use Rattle.solve.proofs.Searching as laws
@@ -176,15 +178,24 @@ loop-again c =
     laws.ends-pass (sought s) (e .before .loop .inv) (e .if2 .left) (long s)
     (laws.below-test (s .args .waits .now) (s .args .limit) _ y (end-state e) ∙ lt-ltb _ _ low)
 
+-- the first move found is the lowest of all
+promised : (s : tie.Start Inv-loop μ-loop Inv-moves μ-moves) {r : ℕ}
+    → let a = s .args in
+    let p = plantOf (a .plant .now) in
+    let ys = below (a .waits .now) (a .limit) (p .states) in
+    r ≡ moveInto p (a .mask) ys (a .state)
+    → (r ≡ moveInto p (a .mask) ys (a .state)) × (r ≡ lowest (p .moves) (movesInto p (a .mask) ys (a .state)))
+promised s e = (e, e ∙ sym (moves-lowest _ _ _ _))
+
 returns : tie.Need-returns Inv-loop μ-loop Inv-moves μ-moves
 returns c =
     let s = entry (c .before) in
-    s .pre .0 .none-is ∙ sym (laws.left-none (sought s) (c .before .moves .inv) (c .if1 .taken) (long s))
+    promised s (s .pre .0 .none-is ∙ sym (laws.left-none (sought s) (c .before .moves .inv) (c .if1 .taken) (long s)))
 
 returns-2 : tie.Need-returns-2 Inv-loop μ-loop Inv-moves μ-moves
 returns-2 c =
     let s = entry (group (c .before) .before) in
-    sym (laws.ends-all (sought s) (c .before .loop .inv) (c .if2 .taken))
+    promised s (sym (laws.ends-all (sought s) (c .before .loop .inv) (c .if2 .taken)))
 
 pub search-spec : {M : Type 1} → statement M
 search-spec =

@@ -11,8 +11,8 @@ use borrow.Author.Needs.{needs}
 use borrow.Author.Tests.{not-true, not-false, eqb-true, eq-eqb}
 use Rattle.statements.specs.Plants.{plantOf, endsIn}
 use Rattle.sets.proofs.Tests.{and-iff, and-true, not-both}
-use Rattle.tables.specs.Filling.{arrowsLeft}
-use Rattle.tables.proofs.Order.{asArrow, ends-nil, left-more, left-none}
+use Rattle.format.specs.Arrows.{arrowsLeft}
+use Rattle.format.proofs.Stored.{asArrow, left-more, left-none, ends-nil}
 use Rattle.tables.proofs.Copying.{Copied, copy-start, copy-fits, copy-length, copy-count, copy-end, copy-stop}
 use Rattle.tables.proofs.Copying.{copy-room, copy-one}
 use Rattle.tables.proofs.fill.group.Statement.{statement}

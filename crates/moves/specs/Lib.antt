@@ -1,0 +1,2 @@
+-- Definitions that contracts inside this crate cite.
+pub mod Checks
