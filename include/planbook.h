@@ -12,7 +12,7 @@
  *   2  a label has a bit above bit N
  *   3  an arrow's state or move is out of range, or the arrows do not strictly ascend
  *   4  the book is under 16 bytes, its S, U or N is out of range, an offset or the length is wrong, its mask has a bit
- *      at U or above, or book_len differs from the length; in withdraw also S, U or N unlike the plant's
+ *      at U or above, or book_len differs from the length; in withdraw and moves also S, U or N unlike the plant's
  *   5  a row is neither wholly lost nor with every wait at most 1,023 and every move in the book's mask, or K is not
  *      the number of rows that are not lost
  *   6  the mask given has a bit at U or above
@@ -60,6 +60,12 @@ typedef struct {
     uint32_t length; /* its length: 4 bytes for each goal, wait then move, two bytes each; 0 only when refused */
 } planbook_part;
 
+/* What moves answers. */
+typedef struct {
+    uint32_t number; /* 0, or why it was refused */
+    uint32_t mask;   /* every good move (bit u is move u); 0 when the state is lost */
+} planbook_mask;
+
 /* Makes the book of a plant with the moves of a mask in service (bit u is move u). Refusals 1, 2, 3, 6, 7. */
 planbook_answer planbook_make(const uint8_t *plant, size_t plant_len, uint32_t mask, uint8_t *book, size_t book_len);
 
@@ -77,6 +83,17 @@ planbook_advice planbook_consult(const uint8_t *book, size_t book_len, uint32_t 
 
 /* Where a state's row stands in the book lent. Refusals 4, 5, 8 (the state alone). */
 planbook_part planbook_row(const uint8_t *book, size_t book_len, uint32_t state);
+
+/*
+ * Every good move in a state when a goal is sought: the moves of the book's mask that have an arrow there and all of
+ * whose arrows end in states that the book keeps and, where the state's wait in the book is above 0, with a smaller
+ * wait for that goal. A lost state has none. In a book that make or withdraw wrote for this plant a kept state has at
+ * least one, and the lowest is the move that consult gives; any pick, made anew at each step for the goal that consult
+ * says to seek, stays in kept states and meets the goal sought within the wait shown, and every goal again and again.
+ * In any other book a kept state may have none, and the move that consult gives need not be good. Refusals 1 to 5, 8.
+ */
+planbook_mask planbook_moves(const uint8_t *plant, size_t plant_len, const uint8_t *book, size_t book_len,
+                             uint32_t state, uint32_t goal);
 
 #ifdef __cplusplus
 }

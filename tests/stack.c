@@ -1,6 +1,6 @@
 /*
- * How much stack the calls take: make, withdraw, consult and row run on a stack of their own that is painted first, and
- * what they overwrote is counted. Prints the figure; fails at 256 KiB or more. The plant is the largest there is.
+ * How much stack the calls take: all five run on a stack of their own that is painted first, and what they overwrote is
+ * counted. Prints the figure; fails at 256 KiB or more. The plant is the largest there is.
  */
 #include <stdio.h>
 #include <string.h>
@@ -39,6 +39,7 @@ static void calls(void) {
         planbook_withdraw(plant, sizeof plant, book, made.length, 1, out, sizeof out, drops, sizeof drops);
     refusals += made.number + gone.number;
     refusals += planbook_consult(out, gone.length, 1023, 7).number + planbook_row(out, gone.length, 1023).number;
+    refusals += planbook_moves(plant, sizeof plant, out, gone.length, 1023, 7).number;
 }
 
 int main(void) {

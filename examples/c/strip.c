@@ -1,4 +1,7 @@
-/* Strip plant P of the request: makes its book, withdraws move 2, and asks what to do in each state for goal 0. */
+/*
+ * Strip plant P of the request: makes its book, withdraws move 2, and asks in each state what to do for goal 0, and
+ * which moves are good.
+ */
 #include <stdio.h>
 
 #include "planbook.h"
@@ -37,11 +40,13 @@ int main(void) {
     for (uint32_t state = 0; state < 4; state++) {
         planbook_advice advice = planbook_consult(patched, answer.length, state, 0);
         planbook_part row = planbook_row(patched, answer.length, state);
+        planbook_mask good = planbook_moves(plant, sizeof plant, patched, answer.length, state, 0);
         if (advice.lost) {
             printf("state %u: lost (row at %u)\n", (unsigned)state, (unsigned)row.start);
         } else {
-            printf("state %u: move %u, wait %u, seek %u (row at %u, %u bytes)\n", (unsigned)state, (unsigned)advice.move,
-                   (unsigned)advice.wait, (unsigned)advice.seek, (unsigned)row.start, (unsigned)row.length);
+            printf("state %u: move %u, or any of mask %u, wait %u, seek %u (row at %u, %u bytes)\n", (unsigned)state,
+                   (unsigned)advice.move, (unsigned)good.mask, (unsigned)advice.wait, (unsigned)advice.seek,
+                   (unsigned)row.start, (unsigned)row.length);
         }
     }
     return planbook_consult(patched, answer.length, 4, 0).number == 8 ? 0 : 1;

@@ -1,4 +1,4 @@
-//! The safe wrapper: the four calls over slices, and a book that owns its bytes.
+//! The safe wrapper: the five calls over slices, and a book that owns its bytes.
 
 use std::sync::Arc;
 
@@ -131,6 +131,30 @@ pub fn row(book: &[u8], state: u32) -> Result<&[u8], Refusal> {
     Ok(&book[start..start + part.length as usize])
 }
 
+/// Every good move in a state when a goal is sought, as a mask (bit u is move u): the moves in service in the book that
+/// have an arrow there and all of whose arrows end in states that the book keeps and, above wait 0, with a smaller wait
+/// for that goal. A lost state has none.
+///
+/// In a book that was made, or withdrawn from, for this plant a kept state has at least one, the lowest is the one that
+/// [`consult`] gives, and any pick, made anew at each step for the goal that consult says to seek, keeps what the book
+/// promises. A book that came about otherwise is read as it stands, and there a kept state may have none.
+///
+/// ```
+/// let plant = planbook::plants::strip().bytes();
+/// let mut book = [0; 48];
+/// planbook::make_into(&plant, 0b111, &mut book)?;
+/// assert_eq!(planbook::good_moves(&plant, &book, 2, 1)?, 0b101); // in goal 1: every move that stays among kept states
+/// assert_eq!(planbook::good_moves(&plant, &book, 1, 0)?, 0b100); // move 0 comes no nearer, and move 1 leads to state 3
+/// assert_eq!(planbook::good_moves(&plant, &book, 3, 0)?, 0); // lost
+/// assert_eq!(planbook::good_moves(&plant, &book, 4, 0), Err(planbook::Refusal::OutOfBook));
+/// # Ok::<(), planbook::Refusal>(())
+/// ```
+pub fn good_moves(plant: &[u8], book: &[u8], state: u32, goal: u32) -> Result<u32, Refusal> {
+    let answer = Linked.moves(plant, book, state, goal);
+    accepted(answer.number)?;
+    Ok(answer.mask)
+}
+
 /// A book that was made, or withdrawn from, for a plant; it holds its own bytes and the plant's, which all books that
 /// come of it share.
 ///
@@ -202,6 +226,23 @@ impl Book {
     /// The state's row, a part of [`Book::bytes`].
     pub fn row(&self, state: u16) -> Result<&[u8], Refusal> {
         row(&self.bytes, state.into())
+    }
+
+    /// Every good move in a state when a goal is sought, as a mask (bit u is move u); see [`good_moves`].
+    ///
+    /// ```
+    /// use planbook::Book;
+    ///
+    /// let plant = planbook::plants::strip().bytes();
+    /// let book = Book::make(&plant, 0b111)?;
+    /// assert_eq!(book.good_moves(0, 1)?, 0b011); // two ways to goal 1: take the one that jolts the strip least
+    ///
+    /// let (book, _) = book.withdraw(0b010)?;
+    /// assert_eq!(book.good_moves(0, 1)?, 0b001); // move 1 is out of service
+    /// # Ok::<(), planbook::Refusal>(())
+    /// ```
+    pub fn good_moves(&self, state: u16, goal: u16) -> Result<u32, Refusal> {
+        good_moves(&self.plant, &self.bytes, state.into(), goal.into())
     }
 
     /// The rows of the states in rising order: a kept state's entries, one for each goal, or `None` for a lost state.

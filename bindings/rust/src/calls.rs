@@ -1,9 +1,10 @@
-//! The four calls over slices, with the C interface's answers: one trait that the proved library and each second
+//! The five calls over slices, with the C interface's answers: one trait that the proved library and each second
 //! solver implement, so that tests and benchmarks treat them alike.
 
-use crate::sys::{Advice, Answer, Part};
+use crate::sys::{Advice, Answer, Mask, Part};
 
-/// A planner: make, withdraw, consult and row as document 01 has them, on raw bytes.
+/// A planner: make, withdraw, consult and row as document 01 has them, and moves as request (i) of document 02 does, on
+/// raw bytes.
 pub trait Calls {
     /// A short name for tables and messages.
     fn name(&self) -> &'static str;
@@ -20,6 +21,10 @@ pub trait Calls {
 
     /// Where the state's row stands in the book.
     fn row(&self, book: &[u8], state: u32) -> Part;
+
+    /// Every good move: all that meet the rule for the entry of a state and the goal sought, as a mask, read on the
+    /// book's own rows and mask.
+    fn moves(&self, plant: &[u8], book: &[u8], state: u32, goal: u32) -> Mask;
 }
 
 /// The proved library.
@@ -63,5 +68,10 @@ impl Calls for Linked {
     fn row(&self, book: &[u8], state: u32) -> Part {
         // SAFETY: the pointer and the length are the slice's own.
         unsafe { crate::sys::planbook_row(book.as_ptr(), book.len(), state) }
+    }
+
+    fn moves(&self, plant: &[u8], book: &[u8], state: u32, goal: u32) -> Mask {
+        // SAFETY: each pointer and length is a slice's own.
+        unsafe { crate::sys::planbook_moves(plant.as_ptr(), plant.len(), book.as_ptr(), book.len(), state, goal) }
     }
 }

@@ -7,7 +7,7 @@
 use std::fmt::Debug;
 
 use crate::calls::Calls;
-use crate::sys::{Advice, Answer, Part};
+use crate::sys::{Advice, Answer, Mask, Part};
 
 pub mod rounds;
 
@@ -24,6 +24,8 @@ pub struct Comparison<'a> {
     mixed: u64,
     /// Withdrawals that drop some states and keep others.
     partial: u64,
+    /// Sets of good moves that leave a choice.
+    choices: u64,
 }
 
 /// A buffer with watched bytes on each side, filled with a pattern.
@@ -55,7 +57,7 @@ impl Buffer {
 impl<'a> Comparison<'a> {
     /// Compares two planners.
     pub fn new(ours: &'a dyn Calls, second: &'a dyn Calls) -> Comparison<'a> {
-        Comparison { ours, second, calls: 0, refused: 0, mixed: 0, partial: 0 }
+        Comparison { ours, second, calls: 0, refused: 0, mixed: 0, partial: 0, choices: 0 }
     }
 
     /// How many calls were compared.
@@ -66,10 +68,11 @@ impl<'a> Comparison<'a> {
     /// What was compared so far, in words.
     pub fn summary(&self) -> String {
         let [ours, second] = [self.ours, self.second].map(|planner| planner.name());
-        let Comparison { calls, refused, mixed, partial, .. } = self;
+        let Comparison { calls, refused, mixed, partial, choices, .. } = self;
         format!(
             "{ours} and {second} do not differ in {calls} calls, of which {refused} are refused, {mixed} write a book \
-             with kept and lost states, and {partial} drop some states and keep others"
+             with kept and lost states, {partial} drop some states and keep others, and {choices} find more than one \
+             good move"
         )
     }
 
@@ -127,6 +130,22 @@ impl<'a> Comparison<'a> {
         self.same_answer([parts[0].number, self.ours.consult(book, state, 0).number], &input);
         self.count(parts[0].number);
         parts[0]
+    }
+
+    /// Compares the call for every good move, and hands back the answer.
+    pub fn moves(&mut self, plant: &[u8], book: &[u8], state: u32, goal: u32) -> Mask {
+        let input = || {
+            let [book, plant] = [hex(book), hex(plant)];
+            format!("moves, state {state}, goal {goal}, book {book}, plant {plant}")
+        };
+        let before = [plant.to_vec(), book.to_vec()];
+        let sets = [self.ours, self.second].map(|planner| planner.moves(plant, book, state, goal));
+        self.same_answer(sets, &input);
+        self.same_bytes("plant", plant, &before[0], &input);
+        self.same_bytes("book", book, &before[1], &input);
+        self.count(sets[0].number);
+        self.choices += u64::from(sets[0].mask.count_ones() > 1);
+        sets[0]
     }
 
     /// A book that must be the one that the second planner makes afresh for these moves.

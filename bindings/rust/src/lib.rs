@@ -3,11 +3,11 @@
 //! A *plant* is a finite transition system: states, moves (actions), goals (sets of states to be met again and again)
 //! and arrows (transitions), some states being allowed. A *book* says for each state whether it is kept (in the winning
 //! region) or lost, and for a kept state and each goal the move to make and the wait, the least number of moves that
-//! forces the goal. Both are bytes; their formats are in the repository's README.
+//! forces the goal. Both are bytes; their formats are in the repository's docs/FORMATS.md.
 //!
 //! With the feature `linked`, which is on by default, [`Book`] and the functions [`make_into`], [`withdraw_into`],
-//! [`consult`] and [`row`] call the proved library. They take slices, answer a [`Result`] with a [`Refusal`], and need
-//! no `unsafe` in the caller's code.
+//! [`consult`], [`row`] and [`good_moves`] call the proved library. They take slices, answer a [`Result`] with a
+//! [`Refusal`], and need no `unsafe` in the caller's code.
 //!
 #![cfg_attr(feature = "linked", doc = "```")]
 #![cfg_attr(not(feature = "linked"), doc = "```ignore")]
@@ -19,6 +19,7 @@
 //! assert_eq!(book.kept_count(), 3);
 //! assert_eq!(book.consult(0, 1)?, Advice::Move { action: 0, wait: 2, seek: 1 });
 //! assert_eq!(book.consult(3, 0)?, Advice::Lost);
+//! assert_eq!(book.good_moves(0, 1)?, 0b011); // move 1 is good there, too
 //!
 //! // Move 2 goes out of service: the way from state 1 to goal 0 gets longer, and no state is dropped.
 //! let (book, dropped) = book.withdraw(0b100)?;
@@ -46,4 +47,4 @@ pub use refusal::Refusal;
 #[cfg(feature = "linked")]
 mod book;
 #[cfg(feature = "linked")]
-pub use book::{consult, make_into, row, withdraw_into, Advice, Book, Entry, Withdrawn};
+pub use book::{consult, good_moves, make_into, row, withdraw_into, Advice, Book, Entry, Withdrawn};

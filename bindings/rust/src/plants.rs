@@ -99,6 +99,22 @@ pub fn strip() -> Model {
     }
 }
 
+/// The longest plant there is, with one state as busy as can be while all are kept: the last has 7,169 arrows, to
+/// states in every goal, and each of those has one.
+pub fn longest() -> Model {
+    let last = 1023;
+    let mut model = empty(last + 1, 32, 8);
+    for state in 0..last {
+        for goal in 0..model.goals {
+            set_goal(&mut model, state, goal);
+        }
+        model.arrows.push([state, 0, state + 1]);
+    }
+    let busy = MOST_ARROWS as u16 - last;
+    model.arrows.extend((0..busy).map(|number| [last, number / last, number % last]));
+    model
+}
+
 /// The families of plants. Each is built for any number of states from 1 to 1,024 and any seed. To withdraw the highest
 /// move of a plant is what its family is meant to show.
 #[derive(Clone, Copy, Debug, PartialEq, Eq)]

@@ -1,4 +1,4 @@
-//! The C interface as it is declared in `include/planbook.h`: its answers, and with the feature `linked` its four
+//! The C interface as it is declared in `include/planbook.h`: its answers, and with the feature `linked` its five
 //! functions. The functions are unsafe to call; [`crate::make_into`] and its neighbours are the safe way.
 //!
 //! A refused answer has its number and 0 in every other field, and so has a lost one beside its `lost`.
@@ -43,6 +43,16 @@ pub struct Part {
     pub length: u32,
 }
 
+/// What moves answers.
+#[repr(C)]
+#[derive(Clone, Copy, Debug, Default, PartialEq, Eq)]
+pub struct Mask {
+    /// 0, or the number of the refusal.
+    pub number: u32,
+    /// Every good move: bit u is move u. 0 if the state is lost.
+    pub mask: u32,
+}
+
 macro_rules! refused {
     ($($answer:ident),*) => {$(
         impl $answer {
@@ -53,7 +63,7 @@ macro_rules! refused {
         }
     )*};
 }
-refused!(Answer, Advice, Part);
+refused!(Answer, Advice, Part, Mask);
 
 #[cfg(feature = "linked")]
 extern "C" {
@@ -91,4 +101,17 @@ extern "C" {
     /// # Safety
     /// `book` is good to read for `book_len` bytes.
     pub fn planbook_row(book: *const u8, book_len: usize, state: u32) -> Part;
+
+    /// Every good move for a state and the goal sought.
+    ///
+    /// # Safety
+    /// `plant` is good to read for `plant_len` bytes, and `book` for `book_len`.
+    pub fn planbook_moves(
+        plant: *const u8,
+        plant_len: usize,
+        book: *const u8,
+        book_len: usize,
+        state: u32,
+        goal: u32,
+    ) -> Mask;
 }

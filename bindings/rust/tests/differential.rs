@@ -5,6 +5,7 @@
 #![deny(warnings)]
 
 mod document;
+mod promises;
 
 use planbook::calls::Linked;
 use planbook::compare::{rounds, Comparison};
@@ -15,10 +16,22 @@ use planbook::second::Fast;
 const SEED: u64 = 1;
 
 #[test]
-fn document_01() {
+fn documents_01_and_02() {
     document::marked_examples(&Linked);
     document::further_examples(&Linked);
+    document::good_moves(&Linked);
+    document::good_moves_of_the_longest(&Linked);
     document::refusals(&Linked);
+}
+
+#[test]
+fn good_moves_are_those_of_the_rule() {
+    promises::sets_are_those_of_the_rule(&Linked);
+}
+
+#[test]
+fn any_pick_of_good_moves_serves() {
+    promises::picks_serve(&Linked);
 }
 
 #[test]
@@ -32,7 +45,7 @@ fn exhaustive_rounds() {
 
 #[test]
 fn random_rounds() {
-    let calls = std::env::var("PLANBOOK_CALLS").map_or(100_000, |word| word.parse().expect("a number of calls"));
+    let calls = std::env::var("PLANBOOK_CALLS").map_or(200_000, |word| word.parse().expect("a number of calls"));
     for (name, round) in rounds::RANDOM_ROUNDS {
         let mut comparison = Comparison::new(&Linked, &Fast);
         let rounds = rounds::run(&mut comparison, round, SEED, calls);

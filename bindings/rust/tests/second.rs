@@ -3,6 +3,7 @@
 #![deny(warnings)]
 
 mod document;
+mod promises;
 
 use planbook::calls::Calls;
 use planbook::compare::{rounds, Comparison};
@@ -15,6 +16,7 @@ fn marked_examples() {
     for planner in [&Brute as &dyn Calls, &Plain, &Fast] {
         document::marked_examples(planner);
         document::further_examples(planner);
+        document::good_moves(planner);
     }
 }
 
@@ -42,10 +44,17 @@ fn generated_plants_are_accepted() {
 }
 
 #[test]
-fn refusals() {
+fn refusals_and_limits() {
     for planner in [&Plain as &dyn Calls, &Fast] {
         document::refusals(planner);
+        document::good_moves_of_the_longest(planner);
     }
+}
+
+#[test]
+fn promises() {
+    promises::sets_are_those_of_the_rule(&Fast);
+    promises::picks_serve(&Fast);
 }
 
 /// Tiny plants, with every mask, and every withdrawal from what is made: brute force, sweeps and worklist agree.

@@ -2,7 +2,7 @@
 
 #![deny(warnings)]
 
-use planbook::{consult, make_into, plants, row, withdraw_into, Advice, Book, Entry, Refusal, Withdrawn};
+use planbook::{consult, good_moves, make_into, plants, row, withdraw_into, Advice, Book, Entry, Refusal, Withdrawn};
 
 #[test]
 fn a_book_owns_its_bytes_and_the_plant() {
@@ -19,6 +19,20 @@ fn a_book_owns_its_bytes_and_the_plant() {
     assert_eq!(rows[0], Some(vec![entry(0, 0), entry(2, 0)]));
     assert_eq!(rows[1], Some(vec![entry(1, 2), entry(1, 0)]));
     assert_eq!(rows[3], None);
+}
+
+#[test]
+fn a_book_gives_every_good_move() {
+    let plant = plants::strip().bytes();
+    let book = Book::make(&plant, 7).expect("P is a plant");
+    assert_eq!(
+        (book.good_moves(2, 1), book.good_moves(0, 1), book.good_moves(1, 0), book.good_moves(3, 0)),
+        (Ok(5), Ok(3), Ok(4), Ok(0))
+    );
+    let (book, _) = book.withdraw(4).expect("move 2 exists");
+    assert_eq!((book.good_moves(2, 1), book.good_moves(1, 0)), (Ok(1), Ok(1)));
+    assert_eq!((book.good_moves(4, 0), book.good_moves(3, 2)), (Err(Refusal::OutOfBook), Err(Refusal::OutOfBook)));
+    assert_eq!(good_moves(&plant, book.bytes(), 2, 1), Ok(1));
 }
 
 #[test]
@@ -58,6 +72,12 @@ fn every_refusal_has_its_name() {
     assert_eq!(consult(&book, 0, 2), Err(Refusal::OutOfBook));
     assert_eq!(row(&book, 4), Err(Refusal::OutOfBook));
     assert_eq!(row(&[], 0), Err(Refusal::BookHeader));
+    assert_eq!(good_moves(&[], &book, 0, 0), Err(Refusal::PlantHeader));
+    assert_eq!(good_moves(&changed(&plant, 16, 8), &book, 0, 0), Err(Refusal::PlantLabel));
+    assert_eq!(good_moves(&changed(&plant, 70, 4), &book, 0, 0), Err(Refusal::PlantArrow));
+    assert_eq!(good_moves(&changed(&plant, 2, 4), &book, 0, 0), Err(Refusal::BookHeader)); // a plant with another move
+    assert_eq!(good_moves(&plant, &changed(&book, 6, 2), 0, 0), Err(Refusal::BookRow));
+    assert_eq!(good_moves(&plant, &book, 0, 2), Err(Refusal::OutOfBook));
 
     let (mut out, mut drops) = ([0; 48], [0; 8]);
     assert_eq!(withdraw_into(&plant, &book, 4, &mut out, &mut drops[..7]), Err(Refusal::Buffer));

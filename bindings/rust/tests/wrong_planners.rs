@@ -6,8 +6,9 @@ use std::panic::{catch_unwind, set_hook, take_hook, AssertUnwindSafe};
 
 use planbook::calls::Calls;
 use planbook::compare::{rounds, Comparison};
-use planbook::second::format::Plant;
+use planbook::second::format::{in_mask, BookView, Plant};
 use planbook::second::{Fast, Solve, Table};
+use planbook::sys::{Advice, Answer, Mask, Part};
 
 /// A planner that remakes the book and ignores the one handed in.
 struct Remake;
@@ -59,18 +60,100 @@ impl Solve for ShortWaits {
     }
 }
 
+/// The good moves of a kept state for a goal, by some rule.
+type Rule = fn(&Plant, &BookView, usize, usize) -> u32;
+
+/// A planner with a rule of its own for the good moves; all else is right.
+struct OwnRule(&'static str, Rule);
+
+impl Calls for OwnRule {
+    fn name(&self) -> &'static str {
+        self.0
+    }
+
+    fn make(&self, plant: &[u8], mask: u32, book: &mut [u8]) -> Answer {
+        Fast.make(plant, mask, book)
+    }
+
+    fn withdraw(&self, plant: &[u8], book: &[u8], mask: u32, out: &mut [u8], drops: &mut [u8]) -> Answer {
+        Fast.withdraw(plant, book, mask, out, drops)
+    }
+
+    fn consult(&self, book: &[u8], state: u32, goal: u32) -> Advice {
+        Fast.consult(book, state, goal)
+    }
+
+    fn row(&self, book: &[u8], state: u32) -> Part {
+        Fast.row(book, state)
+    }
+
+    fn moves(&self, plant: &[u8], book: &[u8], state: u32, goal: u32) -> Mask {
+        let right = Fast.moves(plant, book, state, goal);
+        match (Plant::read(plant), BookView::read(book, None)) {
+            (Ok(plant), Ok(book)) if right.number == 0 && book.is_kept(state as usize) => {
+                Mask { number: 0, mask: (self.1)(&plant, &book, state as usize, goal as usize) }
+            }
+            _ => right,
+        }
+    }
+}
+
+/// The moves in service that lead somewhere, and wherever they may lead to a state at which the test holds.
+fn all_into(plant: &Plant, mask: u32, state: usize, test: impl Fn(usize) -> bool) -> u32 {
+    let good = |action: &u16| {
+        let ends = plant.ends(state, *action);
+        !ends.is_empty() && ends.into_iter().all(&test)
+    };
+    (0..32).filter(|&action| in_mask(mask, action)).filter(good).map(|action| 1 << action).sum()
+}
+
+/// Whether an end meets the rule of document 01 for the entry of a state and a goal.
+fn rule<'a>(book: &'a BookView, state: usize, goal: usize) -> impl Fn(usize) -> bool + 'a {
+    let wait = book.entry(state, goal).0;
+    move |end| book.is_kept(end) && (wait == 0 || book.entry(end, goal).0 < wait)
+}
+
+const RIGHT_RULE: OwnRule =
+    OwnRule("the rule", |plant, book, state, goal| all_into(plant, book.mask, state, rule(book, state, goal)));
+
+/// Rules with one fault each.
+const WRONG_RULES: [OwnRule; 5] = [
+    OwnRule("the listed move alone", |_, book, state, goal| 1 << book.entry(state, goal).1),
+    OwnRule("kept not tested at wait 0", |plant, book, state, goal| {
+        let good = rule(book, state, goal);
+        all_into(plant, book.mask, state, |end| book.entry(state, goal).0 == 0 || good(end))
+    }),
+    OwnRule("the plant's moves for the book's mask", |plant, book, state, goal| {
+        all_into(plant, u32::MAX, state, rule(book, state, goal))
+    }),
+    OwnRule("the label's goal for the row's wait", |plant, book, state, goal| {
+        let (wait, there) = (book.entry(state, goal).0, plant.in_goal(state, goal));
+        all_into(plant, book.mask, state, |end| book.is_kept(end) && (there || book.entry(end, goal).0 < wait))
+    }),
+    OwnRule("only allowed ends", |plant, book, state, goal| {
+        let good = rule(book, state, goal);
+        all_into(plant, book.mask, state, |end| plant.is_allowed(end) && good(end))
+    }),
+];
+
+/// All random rounds, for some calls of each kind.
+fn compare(planner: &dyn Calls) {
+    let mut comparison = Comparison::new(planner, &Fast);
+    for (_, round) in rounds::RANDOM_ROUNDS {
+        rounds::run(&mut comparison, round, 1, 2_000);
+    }
+}
+
 #[test]
 fn wrong_planners_are_found() {
+    // No difference: what is found of the wrong rules is their faults alone.
+    compare(&RIGHT_RULE);
     // The differences are wanted: nothing is printed of them.
     set_hook(Box::new(|_| {}));
     let mut found = Vec::new();
-    for wrong in [&Remake as &dyn Calls, &AllLost, &MayForMust, &ShortWaits] {
-        let compared = catch_unwind(AssertUnwindSafe(|| {
-            let mut comparison = Comparison::new(wrong, &Fast);
-            for (_, round) in rounds::RANDOM_ROUNDS {
-                rounds::run(&mut comparison, round, 1, 2_000);
-            }
-        }));
+    let solvers = [&Remake as &dyn Calls, &AllLost, &MayForMust, &ShortWaits];
+    for wrong in solvers.into_iter().chain(WRONG_RULES.iter().map(|rule| rule as &dyn Calls)) {
+        let compared = catch_unwind(AssertUnwindSafe(|| compare(wrong)));
         let message = compared.map_err(|payload| *payload.downcast::<String>().expect("a message"));
         found.push((wrong.name(), message.expect_err("a difference")));
     }

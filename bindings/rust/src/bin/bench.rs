@@ -5,15 +5,19 @@
 //! `make` is with all moves in service, `withdraw` takes the highest move out of that book, and `remake` makes the same
 //! book afresh. `consult` is the mean over all states and goals. K is how many states the book keeps that is written or
 //! consulted. A ratio above 1 says how many times as long the other solver takes as the first column does.
+//!
+//! At the end stand consult and moves for the longest plant: moves in a state with one arrow, and in the busiest state
+//! there can be; and how many times as long as consult each solver takes for these.
 
 use std::hint::black_box;
 
 use planbook::calls::Calls;
-use planbook::plants::{Family, Model, FAMILIES};
+use planbook::plants::{self, Model, FAMILIES};
 use planbook::second::{Fast, Plain};
 
 const SIZES: [u16; 5] = [64, 128, 256, 512, 1024];
 const CALLS: [&str; 4] = ["make", "withdraw", "remake", "consult"];
+const LOOKUPS: [&str; 3] = ["consult", "moves", "busiest"];
 const SEED: u64 = 1;
 
 /// Runs of one call go on until they took so long in all, in nanoseconds, but are at least three.
@@ -30,26 +34,33 @@ fn main() {
 
     print_heading(&planners);
     for family in FAMILIES {
-        let mut sizes: Vec<Vec<Figures>> = Vec::new();
+        let mut sizes: Vec<Vec<Figures<{ CALLS.len() }>>> = Vec::new();
         for states in SIZES {
             eprintln!("{} with {states} states", family.name());
             let model = family.build(states, SEED);
             sizes.push(planners.iter().map(|planner| measure(*planner, &model)).collect());
-            print_times(family, &model, &sizes[sizes.len() - 1]);
+            print_times(family.name(), &model, &CALLS, &sizes[sizes.len() - 1]);
         }
-        print_growth(family, &sizes[0], &sizes[sizes.len() - 1]);
+        print_growth(family.name(), &sizes[0], &sizes[sizes.len() - 1]);
+    }
+
+    let model = plants::longest();
+    let figures: Vec<_> = planners.iter().map(|planner| measure_lookups(*planner, &model)).collect();
+    print_times("longest", &model, &LOOKUPS, &figures);
+    for (call, name) in LOOKUPS.iter().enumerate().skip(1) {
+        print_line("longest", "to consult", name, figures.iter().map(|figures| figures.times[call] / figures.times[0]));
     }
 }
 
 /// What is found out of a planner on a plant, call by call.
-struct Figures {
+struct Figures<const N: usize> {
     /// Nanoseconds.
-    times: [f64; CALLS.len()],
-    /// How many states are kept in the book that is written or consulted.
-    kept: [u16; CALLS.len()],
+    times: [f64; N],
+    /// How many states are kept in the book that is written or looked up in.
+    kept: [u16; N],
 }
 
-fn measure(planner: &dyn Calls, model: &Model) -> Figures {
+fn measure(planner: &dyn Calls, model: &Model) -> Figures<{ CALLS.len() }> {
     let plant = model.bytes();
     let (states, goals) = (model.labels.len(), usize::from(model.goals));
     let length = 16 + 4 * states * goals;
@@ -69,6 +80,17 @@ fn measure(planner: &dyn Calls, model: &Model) -> Figures {
     });
     let [before, after] = [&book, &out].map(|book| number(book, 6));
     Figures { times: [make, withdraw, remake, consult / (states * goals) as f64], kept: [before, after, after, before] }
+}
+
+/// Consult, and moves in the first state and in the last, for the last goal.
+fn measure_lookups(planner: &dyn Calls, model: &Model) -> Figures<{ LOOKUPS.len() }> {
+    let plant = model.bytes();
+    let (last, goal) = (model.labels.len() as u32 - 1, u32::from(model.goals) - 1);
+    let mut book = vec![0; 16 + 4 * model.labels.len() * usize::from(model.goals)];
+    accepted(planner.make(&plant, model.every_move(), &mut book).number);
+    let consult = least(|| accepted(black_box(planner.consult(&book, last, goal)).number));
+    let moves = |state| least(|| accepted(black_box(planner.moves(&plant, &book, state, goal)).number));
+    Figures { times: [consult, moves(0), moves(last)], kept: [number(&book, 6); 3] }
 }
 
 fn accepted(number: u32) {
@@ -130,11 +152,11 @@ fn print_heading(planners: &[&dyn Calls]) {
     println!();
 }
 
-fn print_times(family: Family, model: &Model, figures: &[Figures]) {
+fn print_times<const N: usize>(family: &str, model: &Model, calls: &[&str; N], figures: &[Figures<N>]) {
     let arrows = number(&model.bytes(), 6);
-    for (call, name) in CALLS.iter().enumerate() {
+    for (call, name) in calls.iter().enumerate() {
         let kept = figures[0].kept[call];
-        print!("{:<12}{:>6}{arrows:>6}  {name:<9}{kept:>6}", family.name(), model.labels.len());
+        print!("{family:<12}{:>6}{arrows:>6}  {name:<9}{kept:>6}", model.labels.len());
         for figures in figures {
             print!("{:>13.2}", figures.times[call] / 1000.0);
         }
@@ -146,12 +168,18 @@ fn print_times(family: Family, model: &Model, figures: &[Figures]) {
 }
 
 /// How many times as long each call takes with the most states as with the fewest.
-fn print_growth(family: Family, fewest: &[Figures], most: &[Figures]) {
+fn print_growth(family: &str, fewest: &[Figures<{ CALLS.len() }>], most: &[Figures<{ CALLS.len() }>]) {
     for (call, name) in CALLS.iter().enumerate() {
-        print!("{:<12}{:>12}  {name:<9}{:>6}", family.name(), "growth", "");
-        for (fewest, most) in fewest.iter().zip(most) {
-            print!("{:>13.1}", most.times[call] / fewest.times[call]);
-        }
-        println!();
+        let growths = fewest.iter().zip(most).map(|(fewest, most)| most.times[call] / fewest.times[call]);
+        print_line(family, "growth", name, growths);
     }
+}
+
+/// A figure for each planner that is no time.
+fn print_line(family: &str, what: &str, call: &str, figures: impl Iterator<Item = f64>) {
+    print!("{family:<12}{what:>12}  {call:<9}{:>6}", "");
+    for figure in figures {
+        print!("{figure:>13.1}");
+    }
+    println!();
 }

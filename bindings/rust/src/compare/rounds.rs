@@ -7,8 +7,9 @@ use crate::plants::{self, bytes_of, Model, Random, FAMILIES};
 pub type Round = fn(&mut Comparison, &mut Random);
 
 /// The random rounds, with their names.
-pub const RANDOM_ROUNDS: [(&str, Round); 6] = [
+pub const RANDOM_ROUNDS: [(&str, Round); 7] = [
     ("lists of calls", list_of_calls),
+    ("good moves", good_moves),
     ("invented books", invented_book),
     ("damaged plants", damaged_plant),
     ("damaged books", damaged_book),
@@ -93,21 +94,42 @@ fn any_length(needed: usize, random: &mut Random) -> usize {
     }
 }
 
-/// The first, the last and some other state, consulted for some goals, and their rows; and what is just out of range.
-fn look_up(comparison: &mut Comparison, book: &[u8], model: &Model, random: &mut Random) {
+/// The first, the last and some other state, consulted for some goals, with their good moves and rows; and what is just
+/// out of range.
+fn look_up(comparison: &mut Comparison, plant: &[u8], book: &[u8], model: &Model, random: &mut Random) {
     let (states, goals) = (model.labels.len() as u32, u32::from(model.goals));
     for state in [0, random.below(states as usize) as u32, states - 1] {
         for goal in [random.below(goals as usize) as u32, goals - 1] {
             comparison.consult(book, state, goal);
+            comparison.moves(plant, book, state, goal);
         }
         comparison.row(book, state);
     }
     let far = random.bits() as u32;
-    comparison.consult(book, states, 0);
-    comparison.consult(book, 0, goals);
-    comparison.consult(book, far, far);
+    for (state, goal) in [(states, 0), (0, goals), (far, far)] {
+        comparison.consult(book, state, goal);
+        comparison.moves(plant, book, state, goal);
+    }
     comparison.row(book, states);
     comparison.row(book, far);
+}
+
+/// The good moves for every goal, in all states of a small plant and in some of a large one, evenly spread; `first`
+/// says which.
+fn every_set(comparison: &mut Comparison, plant: &[u8], book: &[u8], model: &Model, first: usize) {
+    let states = model.labels.len();
+    let step = states.div_ceil(24);
+    for state in (first % step..states).step_by(step) {
+        for goal in 0..model.goals {
+            comparison.moves(plant, book, state as u32, goal.into());
+        }
+    }
+}
+
+/// The good moves for some state and goal.
+fn any_set(comparison: &mut Comparison, plant: &[u8], book: &[u8], model: &Model, random: &mut Random) {
+    let [state, goal] = [model.labels.len(), model.goals.into()].map(|count| random.below(count) as u32);
+    comparison.moves(plant, book, state, goal);
 }
 
 /// A list of makes and withdrawals on one plant, refused ones among them. The standing book is always the one made
@@ -141,8 +163,36 @@ fn list_of_calls(comparison: &mut Comparison, random: &mut Random) {
             standing = book;
         }
         comparison.made_afresh(&plant, in_service, &standing);
+        any_set(comparison, &plant, &standing, &model, random);
     }
-    look_up(comparison, &standing, &model, random);
+    look_up(comparison, &plant, &standing, &model, random);
+}
+
+/// The good moves in books that were made and withdrawn from for the plant, in one that nobody made, and in books that
+/// were made for other plants: one with the same counts, and one with mostly others.
+fn good_moves(comparison: &mut Comparison, random: &mut Random) {
+    let model = any_plant(random);
+    let plant = model.bytes();
+    let lengths = [book_length(&model), list_length(&model)];
+    let (_, mut book) = comparison.make(&plant, many_moves(&model, random), lengths[0]);
+    for _ in 0..3 {
+        every_set(comparison, &plant, &book, &model, random.below(1024));
+        book = comparison.withdraw(&plant, &book, few_moves(&model, random), lengths).1;
+    }
+    every_set(comparison, &plant, &invent_book(&model, random), &model, random.below(1024));
+    let (_, book) = comparison.make(&turned(&model).bytes(), many_moves(&model, random), lengths[0]);
+    every_set(comparison, &plant, &book, &model, random.below(1024));
+    let other = plants::tiny(random);
+    let (_, book) = comparison.make(&other.bytes(), other.every_move(), book_length(&other));
+    look_up(comparison, &plant, &book, &model, random);
+}
+
+/// The plant with its states in the other order.
+fn turned(model: &Model) -> Model {
+    let last = model.labels.len() as u16 - 1;
+    let labels = model.labels.iter().rev().copied().collect();
+    let arrows = model.arrows.iter().map(|&[from, action, to]| [last - from, action, last - to]).collect();
+    Model { labels, arrows, ..model.clone() }
 }
 
 /// A book with rows that nobody made, and that is accepted all the same.
@@ -150,6 +200,7 @@ fn invent_book(model: &Model, random: &mut Random) -> Vec<u8> {
     let mask = many_moves(model, random);
     let actions: Vec<u16> = (0..32).filter(|action| mask >> action & 1 != 0).collect();
     let often = [1, 2, 4, 8, 16, 32, 64, 128][random.below(8)];
+    let waits = [2, 4, 32, 1024][random.below(4)];
     let mut kept = 0;
     let mut rows = Vec::new();
     for _ in &model.labels {
@@ -159,7 +210,7 @@ fn invent_book(model: &Model, random: &mut Random) -> Vec<u8> {
             if lost {
                 rows.extend([u16::MAX; 2]);
             } else {
-                rows.extend([random.below(1024) as u16, actions[random.below(actions.len())]]);
+                rows.extend([random.below(waits) as u16, actions[random.below(actions.len())]]);
             }
         }
     }
@@ -182,17 +233,19 @@ pub fn withdrawals_from_invented(comparison: &mut Comparison, model: &Model, ran
         let mask = few_moves(model, random);
         let (answer, next) = comparison.withdraw(&plant, &book, mask, [book_length(model), list_length(model)]);
         assert_eq!(answer.number, 0, "an invented book is accepted");
-        look_up(comparison, &book, model, random);
+        look_up(comparison, &plant, &book, model, random);
         book = next;
     }
 }
 
-/// The plant made with all moves in service, and then one more withdrawn each time, from the highest down.
+/// The plant made with all moves in service, and then one more withdrawn each time, from the highest down; and the good
+/// moves in each of these books.
 pub fn each_move_in_turn(comparison: &mut Comparison, model: &Model) {
     let plant = model.bytes();
     let lengths = [book_length(model), list_length(model)];
     let (_, mut book) = comparison.make(&plant, model.every_move(), lengths[0]);
     for action in (0..model.moves).rev() {
+        every_set(comparison, &plant, &book, model, action.into());
         book = comparison.withdraw(&plant, &book, 1 << action, lengths).1;
         comparison.made_afresh(&plant, (1 << action) - 1, &book);
     }
@@ -216,7 +269,7 @@ fn damage(bytes: &mut Vec<u8>, random: &mut Random) {
     }
 }
 
-/// Plants with some bytes damaged, made of and withdrawn with.
+/// Plants with some bytes damaged, made of, withdrawn with and looked up with.
 fn damaged_plant(comparison: &mut Comparison, random: &mut Random) {
     let model = plants::tiny(random);
     let book = invent_book(&model, random);
@@ -227,6 +280,7 @@ fn damaged_plant(comparison: &mut Comparison, random: &mut Random) {
         comparison.make(&plant, mask, any_length(book.len(), random));
         let mask = or_too_high(few_moves(&model, random), random);
         comparison.withdraw(&plant, &book, mask, [any_length(book.len(), random), list_length(&model)]);
+        any_set(comparison, &plant, &book, &model, random);
     }
 }
 
@@ -240,7 +294,7 @@ fn damaged_book(comparison: &mut Comparison, random: &mut Random) {
         damage(&mut book, random);
         let mask = or_too_high(few_moves(&model, random), random);
         comparison.withdraw(&plant, &book, mask, [any_length(whole.len(), random), list_length(&model)]);
-        look_up(comparison, &book, &model, random);
+        look_up(comparison, &plant, &book, &model, random);
     }
 }
 
@@ -265,6 +319,7 @@ fn random_header(comparison: &mut Comparison, random: &mut Random) {
         comparison.make(&plant, random.bits() as u32 & 3, 1 << 15 | 16);
         comparison.withdraw(&plant, &book, random.bits() as u32 & 3, [1 << 15 | 16, 2048]);
         comparison.consult(&book, random.below(1025) as u32, random.below(9) as u32);
+        comparison.moves(&plant, &book, random.below(1025) as u32, random.below(9) as u32);
         comparison.row(&book, random.below(1025) as u32);
         plant.truncate(random.below(plant.len() + 1));
         book.truncate(random.below(book.len() + 1));
@@ -307,6 +362,7 @@ fn single_bytes(comparison: &mut Comparison) {
             plant[at] = value;
             comparison.make(&plant, 7, 64);
             comparison.withdraw(&plant, &book, 4, [64, 16]);
+            every_set(comparison, &plant, &book, &plants::strip(), 0);
         }
     }
     for at in 0..book.len() {
@@ -317,6 +373,9 @@ fn single_bytes(comparison: &mut Comparison) {
             for state in 0..5 {
                 comparison.consult(&book, state, state % 3);
                 comparison.row(&book, state);
+                for goal in 0..3 {
+                    comparison.moves(&plant, &book, state, goal);
+                }
             }
         }
     }
@@ -334,11 +393,13 @@ fn other_lengths(comparison: &mut Comparison) {
         let plant = of_length(&plant, length);
         comparison.make(&plant, 7, 48);
         comparison.withdraw(&plant, &book, 4, [48, 8]);
+        comparison.moves(&plant, &book, 0, 1);
     }
     for length in 0..book.len() + 20 {
         let book = of_length(&book, length);
         comparison.withdraw(&plant, &book, 4, [48, 8]);
         comparison.consult(&book, 0, 1);
+        comparison.moves(&plant, &book, 0, 1);
         comparison.row(&book, 0);
     }
 }
@@ -354,6 +415,7 @@ fn every_mask(comparison: &mut Comparison) {
                 comparison.consult(&rest, state, 0);
                 comparison.row(&rest, state);
             }
+            every_set(comparison, &plant, &rest, &plants::strip(), 0);
         }
     }
 }
@@ -387,6 +449,7 @@ fn largest(comparison: &mut Comparison) {
         let (_, book) = comparison.make(&plant, mask, 1 << 16);
         comparison.withdraw(&plant, &book, mask & 1, [1 << 16, 1 << 12]);
         comparison.consult(&book, 1023, 7);
+        comparison.moves(&plant, &book, 1023, 7);
         comparison.row(&book, 1023);
     }
 }

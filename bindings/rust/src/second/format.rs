@@ -78,6 +78,14 @@ impl Plant {
     pub fn in_goal(&self, state: usize, goal: usize) -> bool {
         self.labels[state] >> (1 + goal) & 1 != 0
     }
+
+    /// Where the move, made in the state, may lead; nowhere if it has no arrow there.
+    pub fn ends(&self, state: usize, action: u16) -> Vec<usize> {
+        let place = |arrow: &Arrow| (usize::from(arrow.from), arrow.action);
+        let first = self.arrows.partition_point(|arrow| place(arrow) < (state, action));
+        let fan = self.arrows[first..].iter().take_while(|arrow| place(arrow) == (state, action));
+        fan.map(|arrow| arrow.to.into()).collect()
+    }
 }
 
 /// A book that was read and found without fault.

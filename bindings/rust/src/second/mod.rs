@@ -19,9 +19,9 @@ pub use fast::Fast;
 pub use plain::Plain;
 
 use crate::calls::Calls;
-use crate::sys::{Advice, Answer, Part};
+use crate::sys::{Advice, Answer, Mask, Part};
 use crate::Refusal;
-use format::{BookView, Plant, LOST};
+use format::{in_mask, BookView, Plant, LOST};
 
 /// Waits and moves of all states, row by row with an entry per goal; [`LOST`] in both for a lost state.
 #[derive(Clone, Debug, PartialEq, Eq)]
@@ -69,6 +69,10 @@ impl<S: Solve> Calls for S {
 
     fn row(&self, book: &[u8], state: u32) -> Part {
         row(book, state).unwrap_or_else(|refusal| Part::refused(refusal.number()))
+    }
+
+    fn moves(&self, plant: &[u8], book: &[u8], state: u32, goal: u32) -> Mask {
+        moves(plant, book, state, goal).unwrap_or_else(|refusal| Mask::refused(refusal.number()))
     }
 }
 
@@ -123,6 +127,26 @@ fn row(book: &[u8], state: u32) -> Result<Part, Refusal> {
     require((state as usize) < book.states, Refusal::OutOfBook)?;
     let length = 4 * book.goals as u32;
     Ok(Part { number: 0, start: 16 + length * state, length })
+}
+
+/// Tries each move in service by itself: it is good if it leads anywhere, and wherever it may lead is kept and, above
+/// wait 0, nearer.
+fn moves(plant: &[u8], book: &[u8], state: u32, goal: u32) -> Result<Mask, Refusal> {
+    let plant = Plant::read(plant)?;
+    let book = BookView::read(book, Some(&plant))?;
+    let (state, goal) = (state as usize, goal as usize);
+    require(state < book.states && goal < book.goals, Refusal::OutOfBook)?;
+    if !book.is_kept(state) {
+        return Ok(Mask::default());
+    }
+    let wait = book.entry(state, goal).0;
+    let lands_well = |&end: &usize| book.is_kept(end) && (wait == 0 || book.entry(end, goal).0 < wait);
+    let is_good = |&action: &u16| {
+        let ends = plant.ends(state, action);
+        !ends.is_empty() && ends.iter().all(lands_well)
+    };
+    let good = (0..plant.moves as u16).filter(|&action| in_mask(book.mask, action)).filter(is_good);
+    Ok(Mask { number: 0, mask: good.map(|action| 1 << action).sum() })
 }
 
 fn require(holds: bool, refusal: Refusal) -> Result<(), Refusal> {

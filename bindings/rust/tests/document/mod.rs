@@ -1,9 +1,9 @@
-//! What document 01 fixes by hand: the marked examples M1 to M11, and the table of refusals with its edges. Written out
-//! from the document, and run on any planner.
+//! What document 01 fixes by hand: the marked examples M1 to M11, and the table of refusals with its edges; and what
+//! request (i) of document 02 says of the good moves, worked out by hand. Run on any planner.
 
 use planbook::calls::Calls;
-use planbook::plants::bytes_of;
-use planbook::sys::{Advice, Answer, Part};
+use planbook::plants::{self, bytes_of};
+use planbook::sys::{Advice, Answer, Mask, Part};
 
 const LOST: u16 = u16::MAX;
 
@@ -100,6 +100,66 @@ pub fn further_examples(planner: &dyn Calls) {
     check_withdrawal(planner, &book_of_p(4, 7, rows), 0, &book_of_p(3, 7, M1_ROWS), &[3]);
 }
 
+/// The good moves for each state and goal in turn, as masks.
+fn check_sets(planner: &dyn Calls, plant: &[u16], book: &[u8], expected: &[&[u32]]) {
+    for (state, masks) in expected.iter().enumerate() {
+        for (goal, &mask) in masks.iter().enumerate() {
+            let found = planner.moves(&bytes_of(plant), book, state as u32, goal as u32);
+            assert_eq!(found, Mask { number: 0, mask }, "state {state}, goal {goal} of {book:?}");
+        }
+    }
+}
+
+/// Every good move, by hand: the moves in service in the book whose arrows all end in states that it keeps and, above
+/// wait 0, with smaller waits.
+pub fn good_moves(planner: &dyn Calls) {
+    // M1. State 0: moves 0 and 1 lead to 1 and 2, whose waits for goal 1 are below 2. State 1: move 2 to goal 0, move 0
+    // to goal 1, move 1 to the lost state 3. State 2: move 0 to goal 0, move 2 comes no nearer; in goal 1 both will do.
+    check_sets(planner, &P, &book_of_p(3, 7, M1_ROWS), &[&[3, 3], &[4, 1], &[1, 5], &[0, 0]]);
+
+    // M2: move 2 is out of service, and state 1 is then at wait 2 for goal 0, with move 0 to state 2.
+    let with = |changes: &[(usize, u16)]| {
+        let mut rows = M1_ROWS;
+        for &(at, number) in changes {
+            rows[at] = number;
+        }
+        rows
+    };
+    check_sets(planner, &P, &book_of_p(3, 3, with(&[(4, 2), (5, 0)])), &[&[3, 3], &[1, 1], &[1, 1], &[0, 0]]);
+
+    // M9's book, which nobody made: state 1 is lost, so state 0 has no good move though it is kept; state 2 has one.
+    let lost = with(&[(4, LOST), (5, LOST), (6, LOST), (7, LOST)]);
+    check_sets(planner, &P, &book_of_p(2, 7, lost), &[&[0, 0], &[0, 0], &[1, 1], &[0, 0]]);
+
+    // The row's wait counts and not the label: state 0 is in goal 0 and at wait 1 here, state 1 is not and at wait 0.
+    check_sets(planner, &P, &book_of_p(3, 7, with(&[(0, 1)])), &[&[0, 3], &[0, 1], &[0, 5], &[0, 0]]);
+    check_sets(planner, &P, &book_of_p(3, 7, with(&[(4, 0)])), &[&[3, 3], &[5, 1], &[5, 5], &[0, 0]]);
+
+    // A move may end in a state that the book keeps though the plant does not allow it; state 3 itself has no arrow.
+    let not_allowed = with(&[(12, 0), (13, 0), (14, 0), (15, 0)]);
+    check_sets(planner, &P, &book_of_p(4, 7, not_allowed), &[&[3, 3], &[6, 3], &[1, 5], &[0, 0]]);
+
+    // M8's plant, with goal {1}: a move that may stay in state 0 comes no nearer, whatever else it may do.
+    let may_stay = [2, 1, 1, 3, 16, 20, 38, 0, 1, 3, 0, 0, 0, 0, 0, 1, 1, 0, 1];
+    check_sets(planner, &may_stay, &bytes_of(&[2, 1, 1, 2, 1, 0, 16, 24, 1, 0, 0, 0]), &[&[0], &[1]]);
+
+    // The highest move of 32, beside all those that have no arrow.
+    let highest = [1, 32, 1, 1, 16, 18, 24, 0, 3, 0, 31, 0];
+    let all_in_service = bytes_of(&[1, 32, 1, 1, 0xffff, 0xffff, 16, 20, 0, 0]);
+    check_sets(planner, &highest, &all_in_service, &[&[1 << 31]]);
+}
+
+/// The good moves in the longest plant and book, by hand: the last state has 7 moves with 1,023 arrows each and one
+/// with 8, all to states in every goal, and each of those has a move to the next state.
+pub fn good_moves_of_the_longest(planner: &dyn Calls) {
+    let plant = plants::longest().bytes();
+    let mut book = vec![0; 32_784];
+    assert_eq!((plant.len(), planner.make(&plant, u32::MAX, &mut book).length), (51_216, 32_784));
+    for (state, mask) in [(1023, 0xff), (1022, 1), (0, 1)] {
+        assert_eq!(planner.moves(&plant, &book, state, 7), Mask { number: 0, mask }, "state {state}");
+    }
+}
+
 /// P's numbers with some changed: pairs of a place and a number.
 fn changed(numbers: &[u16], changes: &[(usize, u16)]) -> Vec<u8> {
     let mut numbers = numbers.to_vec();
@@ -141,6 +201,15 @@ fn check_lookup(planner: &dyn Calls, book: &[u8], state: u32, goal: u32, number:
     assert_eq!(part.length == 0, part.number != 0, "empty exactly when refused");
 }
 
+/// Every good move, with this plant, book, state and goal: the number, and no move if refused.
+fn check_moves(planner: &dyn Calls, plant: &[u8], book: &[u8], state: u32, goal: u32, number: u32) {
+    let found = planner.moves(plant, book, state, goal);
+    assert_eq!(found.number, number, "moves, state {state} goal {goal} of {book:?}, plant {plant:?}");
+    if number != 0 {
+        assert_eq!(found, Mask::refused(number));
+    }
+}
+
 /// A plant of these counts with no arrow and every state allowed.
 fn bare(states: u16, moves: u16, goals: u16) -> Vec<u8> {
     let length = 16 + 2 * states;
@@ -160,8 +229,16 @@ pub fn refusals(planner: &dyn Calls) {
     let plant = bytes_of(&P);
     let book_numbers: Vec<u16> = [4, 3, 2, 3, 7, 0, 16, 48].into_iter().chain(M1_ROWS).collect();
     let book = bytes_of(&book_numbers);
-    let make = |plant: &[u8], number| check_make(planner, plant, 0, 1 << 15 | 16, number);
-    let withdraw = |book: &[u8], number| check_withdraw(planner, &plant, book, 4, [48, 8], number);
+    let make = |plant: &[u8], number| {
+        check_make(planner, plant, 0, 1 << 15 | 16, number);
+        if number != 0 {
+            check_moves(planner, plant, &book, 0, 0, number);
+        }
+    };
+    let withdraw = |book: &[u8], number| {
+        check_withdraw(planner, &plant, book, 4, [48, 8], number);
+        check_moves(planner, &plant, book, 3, 1, number);
+    };
 
     // 1: the plant's header and length.
     make(&plant[..15], 1);
@@ -230,6 +307,9 @@ pub fn refusals(planner: &dyn Calls) {
     let four_moves = changed(&book_numbers, &[(1, 4)]);
     withdraw(&four_moves, 4);
     check_lookup(planner, &four_moves, 0, 0, 0);
+    let row_as_well = changed(&book_numbers, &[(1, 4), (8, 1024)]);
+    withdraw(&row_as_well, 4);
+    check_lookup(planner, &row_as_well, 0, 0, 5);
 
     // 5: rows and their count.
     for changes in [
@@ -272,6 +352,7 @@ pub fn refusals(planner: &dyn Calls) {
     // 8: the state and the goal asked for.
     for (state, goal, number) in [(3, 1, 0), (4, 1, 8), (3, 2, 8), (u32::MAX, 0, 8), (0, u32::MAX, 8), (65536, 0, 8)] {
         check_lookup(planner, &book, state, goal, number);
+        check_moves(planner, &plant, &book, state, goal, number);
     }
 
     // The lowest that applies: each fault added to all those after it.
@@ -280,13 +361,17 @@ pub fn refusals(planner: &dyn Calls) {
     check_withdraw(planner, &plant, &book, 8, [47, 8], 6);
     faulty_book[8] = 1024;
     check_withdraw(planner, &plant, &bytes_of(&faulty_book), 8, [47, 8], 5);
+    check_moves(planner, &plant, &bytes_of(&faulty_book), 4, 2, 5);
     check_lookup(planner, &bytes_of(&faulty_book), 4, 2, 5);
+    check_moves(planner, &bare(2, 1, 1), &bytes_of(&faulty_book), 4, 2, 4);
     faulty_book[6] = 15;
     check_withdraw(planner, &plant, &bytes_of(&faulty_book), 8, [47, 8], 4);
+    check_moves(planner, &plant, &bytes_of(&faulty_book), 4, 2, 4);
     check_lookup(planner, &bytes_of(&faulty_book), 4, 2, 4);
     for (at, number, refusal) in [(33, 4, 3), (8, 8, 2), (7, 1, 1)] {
         faulty_plant[at] = number;
         check_withdraw(planner, &bytes_of(&faulty_plant), &bytes_of(&faulty_book), 8, [47, 8], refusal);
+        check_moves(planner, &bytes_of(&faulty_plant), &bytes_of(&faulty_book), 4, 2, refusal);
         check_make(planner, &bytes_of(&faulty_plant), 8, 47, refusal);
     }
 }
