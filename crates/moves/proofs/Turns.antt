@@ -24,8 +24,8 @@ use Rattle.format.proofs.Stored.{asArrow, left-more, left-none, ends-nil, ends-
 use Rattle.format.proofs.Words.{no-bit}
 
 -- a plant has a move, and it is in the mask
-abbrev pub serves : Plant → ℕ → ℕ → Bool
-serves p mask u = ltb u (p .moves) && bit u mask
+abbrev pub ofMask : Plant → ℕ → ℕ → Bool
+ofMask p mask u = ltb u (p .moves) && bit u mask
 
 -- a move was seen or has ends left, was not found to lead elsewhere, and its ends left are in a set
 unfoldable pub meets : Bool → Bool → List ℕ → List ℕ → Bool
@@ -52,9 +52,9 @@ meets-none seen bad ys = rw (or-false, and-yes)
 pub record Tried (s : List ℕ) (mask x : ℕ) (ys : List ℕ) (k seen bad : ℕ) : Type 0 where
   pub mask-few : mask < 2 ^ 32
   pub seen-few : seen < 2 ^ 32
-  pub serving : (u : ℕ) → serves (plantOf s) mask u ≡ true
+  pub serving : (u : ℕ) → ofMask (plantOf s) mask u ≡ true
       → goesInto (plantOf s) mask ys x u ≡ meets (bit u seen) (bit u bad) (endsIn (arrowsLeft s k) x u) ys
-  pub others : (u : ℕ) → serves (plantOf s) mask u ≡ false → bit u seen ≡ false
+  pub others : (u : ℕ) → ofMask (plantOf s) mask u ≡ false → bit u seen ≡ false
 
 -- a mask with move m added has the others as they were, and m
 module _ (m v u : ℕ) where
@@ -91,14 +91,14 @@ module _ {s : List ℕ} {mask x : ℕ} {ys : List ℕ} {k seen bad : ℕ} {a : R
   left-is = rw (h .read) (left-more s k (h .more))
 
   -- it says nothing of a move to whose ends it does not add
-  same-ends : (u : ℕ) → serves (plantOf s) mask u ≡ true
+  same-ends : (u : ℕ) → ofMask (plantOf s) mask u ≡ true
       → endsIn (asArrow a ∷ arrowsLeft s (k + 1)) x u ≡ endsIn (arrowsLeft s (k + 1)) x u
       → goesInto (plantOf s) mask ys x u
       ≡ meets (bit u seen) (bit u bad) (endsIn (arrowsLeft s (k + 1)) x u) ys
   same-ends u in-service e = h .so-far .serving u in-service ∙ rw (left-is, e)
 
   -- so it changes nothing where it adds no end of a move of the mask
-  passed-over : ((u : ℕ) → serves (plantOf s) mask u ≡ true
+  passed-over : ((u : ℕ) → ofMask (plantOf s) mask u ≡ true
       → endsIn (asArrow a ∷ arrowsLeft s (k + 1)) x u ≡ endsIn (arrowsLeft s (k + 1)) x u)
       → Tried s mask x ys (k + 1) seen bad
   passed-over same =
@@ -113,13 +113,13 @@ module _ {s : List ℕ} {mask x : ℕ} {ys : List ℕ} {k seen bad : ℕ} {a : R
   pub tried-state : (a .from ≡ x → ⊥) → Tried s mask x ys (k + 1) seen bad
   tried-state d = passed-over (λ u v. ends-from (asArrow a) (arrowsLeft s (k + 1)) x u d)
 
-  pub tried-move : serves (plantOf s) mask (a .action) ≡ false → Tried s mask x ys (k + 1) seen bad
+  pub tried-move : ofMask (plantOf s) mask (a .action) ≡ false → Tried s mask x ys (k + 1) seen bad
   tried-move off =
       passed-over
       (λ u v. ends-move (asArrow a) (arrowsLeft s (k + 1)) x u (λ e. not-both v (rw e at off)))
 
   -- a move of the mask is below 32
-  pub tried-few : serves (plantOf s) mask (a .action) ≡ true → a .action < 32
+  pub tried-few : ofMask (plantOf s) mask (a .action) ≡ true → a .action < 32
   tried-few on =
       elim (decided (ltb (a .action) 32)) [
         | inl low ↦ ltb-true (a .action) 32 low
@@ -129,7 +129,7 @@ module _ {s : List ℕ} {mask x : ℕ} {ys : List ℕ} {k seen bad : ℕ} {a : R
             (no-bit 32 (a .action) mask (h .so-far .mask-few) (ltb-false (a .action) 32 high)))
       ]
 
-  module _ (here : a .from ≡ x) (on : serves (plantOf s) mask (a .action) ≡ true) where
+  module _ (here : a .from ≡ x) (on : ofMask (plantOf s) mask (a .action) ≡ true) where
     -- its move is seen, and led elsewhere if its end is not in the set
     seen-now : (bad′ : ℕ) → ((u : ℕ) → (a .action ≡ u → ⊥) → bit u bad′ ≡ bit u bad)
         → bit (a .action) bad′ ≡ (bit (a .action) bad || not (isIn (a .to) ys))
@@ -166,14 +166,14 @@ module _ {s : List ℕ} {mask x : ℕ} {ys : List ℕ} {k seen bad : ℕ} {a : R
 module _ {s : List ℕ} {mask x : ℕ} {ys : List ℕ} {k seen bad : ℕ} (t : Tried s mask x ys k seen bad)
     (none : word 3 s ≤ k) where
   -- a move of the mask
-  end-on : (u : ℕ) → serves (plantOf s) mask u ≡ true
+  end-on : (u : ℕ) → ofMask (plantOf s) mask u ≡ true
       → bit u (lessMask seen bad) ≡ goesInto (plantOf s) mask ys x u
   end-on u v =
       less-is u seen bad
       ∙ sym (t .serving u v ∙ rw (left-none s k none, ends-nil, meets-none))
 
   -- any other
-  end-off : (u : ℕ) → serves (plantOf s) mask u ≡ false → bit u (lessMask seen bad) ≡ false
+  end-off : (u : ℕ) → ofMask (plantOf s) mask u ≡ false → bit u (lessMask seen bad) ≡ false
   end-off u v = less-is u seen bad ∙ rw (t .others u v)
 
   -- bit by bit

@@ -16,7 +16,7 @@ use Rattle.format.specs.Arrows.{arrowIn}
 use Rattle.format.proofs.Words.{power}
 use Rattle.moves.specs.Checks.{nearerThan}
 use Rattle.moves.proofs.Rule.{nearer-is}
-use Rattle.moves.proofs.Turns.{serves, Tried, Here, tried-start, tried-state, tried-move, tried-few, tried-in}
+use Rattle.moves.proofs.Turns.{ofMask, Tried, Here, tried-start, tried-state, tried-move, tried-few, tried-in}
 use Rattle.moves.proofs.Turns.{tried-out, tried-end}
 use borrow.Author.Needs.{needs}
 use Rattle.moves.proofs.moves_into.Statement.{statement}
@@ -111,7 +111,7 @@ tested : (c : tie.After-bit-at Inv-loop μ-loop)
     → let r = read-at c in
     let n = r .before .before .before .before .before .before .before in
     let a = n .before .before .before .before .args in
-    serves (plantOf (now (a .plant))) (bookMask (now (a .book))) (r .read .result .action)
+    ofMask (plantOf (now (a .plant))) (bookMask (now (a .book))) (r .read .result .action)
     ≡ (ltb (r .read .result .action) (n .number .result) && c .bit-at .result)
 unfolding plantOf
 tested c =
@@ -132,7 +132,7 @@ loop-again-2 c = tried-move (here (read-at (c .before))) (tested (c .before) ∙
 in-service : (c : tie.Else2 Inv-loop μ-loop)
     → let r = read-at (c .before) in
     let a = r .before .before .before .before .before .before .before .before .before .before .before .args in
-    serves (plantOf (now (a .plant))) (bookMask (now (a .book))) (r .read .result .action) ≡ true
+    ofMask (plantOf (now (a .plant))) (bookMask (now (a .book))) (r .read .result .action) ≡ true
 in-service c = tested (c .before) ∙ not-false _ (c .if2 .left)
 
 cast-one : tie.Need-cast-one Inv-loop μ-loop
