@@ -1,5 +1,6 @@
 // The arrows of a plant, read one after another in their stored order. The reader holds the plant's bytes and a place;
-// the work is done by `arrow_at`, on the slice and the number, and all other code calls `read`.
+// the work is done by `arrow_at`, on the slice and the number, and all other code calls `read`, or `from_at` where the
+// state in which an arrow starts is enough.
 use crate::word::number;
 use crate::word::word_at;
 ghost use mathlib.Core.Path.{_≡_};
@@ -33,7 +34,7 @@ pub fn arrow_at(plant: &[u8], k: u16) -> Arrow
     }
 }
 
-// The state in which arrow k starts, for a pass that looks for the arrows of one state.
+// The state in which arrow k starts; bytes past the end count as 0.
 pub fn from_at(plant: &[u8], k: u16) -> u16
     ensures { λ r. ⌜ r ≡ arrowIn (now (plant .entry)) k .from ⌝ }
 {

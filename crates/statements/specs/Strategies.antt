@@ -1,5 +1,5 @@
--- Strategies over whole histories, their plays and runs, and what it is to win and to force a goal in time.
--- A strategy is a history-dependent controller; which arrow is followed is the opponent's choice.
+-- Strategies over whole histories, their plays and runs, what it is to win and to force a goal in time, and following a
+-- book or picking from it. A strategy is a history-dependent controller; which arrow is followed is the opponent's choice.
 use mathlib.Core.Path.{_≡_}
 use mathlib.Core.Bool.{true, false}
 use mathlib.Core.List.{List, [], _∷_}

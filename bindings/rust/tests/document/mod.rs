@@ -143,6 +143,10 @@ pub fn good_moves(planner: &dyn Calls) {
     let may_stay = [2, 1, 1, 3, 16, 20, 38, 0, 1, 3, 0, 0, 0, 0, 0, 1, 1, 0, 1];
     check_sets(planner, &may_stay, &bytes_of(&[2, 1, 1, 2, 1, 0, 16, 24, 1, 0, 0, 0]), &[&[0], &[1]]);
 
+    // No arrow at all: a book may keep the state, but there is no move to make.
+    let no_arrow = [1, 1, 1, 0, 16, 18, 18, 0, 3];
+    check_sets(planner, &no_arrow, &bytes_of(&[1, 1, 1, 1, 1, 0, 16, 20, 0, 0]), &[&[0]]);
+
     // The highest move of 32, beside all those that have no arrow.
     let highest = [1, 32, 1, 1, 16, 18, 24, 0, 3, 0, 31, 0];
     let all_in_service = bytes_of(&[1, 32, 1, 1, 0xffff, 0xffff, 16, 20, 0, 0]);
