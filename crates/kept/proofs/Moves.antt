@@ -1,6 +1,6 @@
 -- The controllable predecessor: a state is in it exactly when some available move goes wholly into the set, and then
--- the lowest such move does, which is the lowest in the mask of all of them; it grows with the set and with the moves in
--- service. Assumes nothing.
+-- the lowest such move does, which is the lowest in the mask of all of them; it grows with the set and with the moves
+-- in service. Assumes nothing.
 use mathlib.Core.Path.{_≡_}
 use mathlib.Core.Logic.{⊎-elim}
 use mathlib.Core.Bool.{true, false}

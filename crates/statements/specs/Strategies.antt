@@ -1,5 +1,6 @@
 -- Strategies over whole histories, their plays and runs, what it is to win and to force a goal in time, and following a
--- book or picking from it. A strategy is a history-dependent controller; which arrow is followed is the opponent's choice.
+-- book or picking from it. A strategy is a history-dependent controller; which arrow is followed is the opponent's
+-- choice.
 use mathlib.Core.Path.{_≡_}
 use mathlib.Core.Bool.{true, false}
 use mathlib.Core.List.{List, [], _∷_}
