@@ -6,7 +6,7 @@ use native.Mathlib.Omega.{arith}
 use lib.ListN.{length}
 use lib.Seq.{drop-at}
 use Rattle.statements.specs.Sets.{over}
-use Rattle.statements.specs.Plants.{word, labelsFrom}
+use Rattle.statements.specs.Plants.{word, words}
 use Rattle.statements.specs.Books.{two, bytesOf, bookStates, droppedStates}
 use Rattle.sets.proofs.Over.{over-length}
 use Rattle.writing.proofs.Written.{bytes-length}
@@ -14,8 +14,8 @@ use Rattle.writing.proofs.Drops.{dropped-few}
 use Rattle.books.specs.Says.{Lists}
 
 -- numbers read back from their bytes
-read-back : (xs rest : List ℕ) → labelsFrom (length xs) (bytesOf xs ++ rest) ≡ xs
-unfolding labelsFrom bytesOf two word
+read-back : (xs rest : List ℕ) → words (length xs) (bytesOf xs ++ rest) ≡ xs
+unfolding words bytesOf two word
 read-back [] rest = refl
 read-back (x ∷ xs) rest =
     let here : x % 256 + 256 * (x / 256) ≡ x = omega arith in

@@ -9,7 +9,7 @@ use Rattle.books.specs.declared.Advice.{Advice}
 use Rattle.books.specs.declared.Answer.{Answer}
 use Rattle.books.specs.declared.Mask.{Mask}
 use Rattle.statements.specs.Sets.{pick, over}
-use Rattle.statements.specs.Plants.{when, plantOf, labelsFrom}
+use Rattle.statements.specs.Plants.{when, plantOf, words}
 use Rattle.statements.specs.Books.{bookGoals, waitAt, moveAt, isLost, nextGoal, goodMoves}
 use Rattle.statements.specs.Books.{madeBook, withdrawnBook, droppedStates}
 use Rattle.statements.specs.Calls.{consultFault, movesFault, makeFault, withdrawFault}
@@ -58,7 +58,7 @@ timesIn x (y ∷ ys) = when (eqb x y) 1 + timesIn x ys
 -- a drop buffer that held d holds d′: each of these states once, in any order (the one thing that document 01 leaves
 -- open), and past them the bytes it held
 pub record Lists (states d d′ : List ℕ) : Type 0 where
-  pub each : (x : ℕ) → timesIn x (labelsFrom (length states) d′) ≡ timesIn x states
+  pub each : (x : ℕ) → timesIn x (words (length states) d′) ≡ timesIn x states
   pub size : length d′ ≡ length d
   pub past : drop (2 * length states) d′ ≡ drop (2 * length states) d
 

@@ -12,7 +12,7 @@ use lib.Dec.{eqb, ltb, leb}
 use lib.ListN.{length, drop, List·getD-eq-default}
 use borrow.Author.Tests.{ltb-true, leb-true, eqb-true}
 use Rattle.statements.specs.Sets.{bit, isIn}
-use Rattle.statements.specs.Plants.{word, Arrow, Plant, labelsFrom, plantOf, headOk, labelsOk, arrowsOk, rank}
+use Rattle.statements.specs.Plants.{word, Arrow, Plant, words, plantOf, headOk, labelsOk, arrowsOk, rank}
 use Rattle.statements.specs.Plants.{firstOf, when, plantFault, allowed, endsIn}
 use Rattle.statements.specs.Books.{bookLong, bookStates, bookMoves, bookGoals, bookMask, maskOk, bookHeadOk, rowsOk}
 use Rattle.statements.specs.Books.{bookFault}
@@ -38,8 +38,8 @@ pub record PlantOk (p : Plant) : Type 0 where
   pub labels-ok : labelsOk (p .goals) (p .labels) ≡ true
   pub arrows-ok : arrowsOk (p .states) (p .moves) 0 (p .arrows) ≡ true
 
-labels-length : (n : ℕ) (s : List ℕ) → length (labelsFrom n s) ≡ n
-unfolding labelsFrom
+labels-length : (n : ℕ) (s : List ℕ) → length (words n s) ≡ n
+unfolding words
 labels-length zero s = refl
 labels-length (suc n) s = ap suc (labels-length n (drop 2 s))
 

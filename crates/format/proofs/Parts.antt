@@ -9,7 +9,7 @@ use native.Mathlib.Omega.{arith}
 use lib.Dec.{ltb, leb}
 use lib.ListN.{length, getD, drop, List·getD-eq-default}
 use lib.Seq.{drop-drop}
-use Rattle.statements.specs.Plants.{word, Arrow, labelsFrom, arrowsFrom, labelsOk, rank, arrowsOk}
+use Rattle.statements.specs.Plants.{word, Arrow, words, arrowsFrom, labelsOk, rank, arrowsOk}
 use Rattle.format.proofs.Words.{word-further}
 
 -- a number that is not 0 is one more than its predecessor
@@ -23,8 +23,8 @@ arrowAt s at =
 
 module _ (s : List ℕ) (at k : ℕ) where
   -- one label more from a place on
-  pub labels-more : labelsFrom (suc k) (drop at s) ≡ word 0 (drop at s) ∷ labelsFrom k (drop (at + 2) s)
-  unfolding labelsFrom
+  pub labels-more : words (suc k) (drop at s) ≡ word 0 (drop at s) ∷ words k (drop (at + 2) s)
+  unfolding words
   labels-more = rw drop-drop
 
   -- one arrow more from a place on
@@ -33,13 +33,13 @@ module _ (s : List ℕ) (at k : ℕ) where
   arrows-more = rw (drop-drop 6, word-further s at 1, word-further s at 2)
 
 -- as many labels as asked for
-length-labels : (n : ℕ) (s : List ℕ) → length (labelsFrom n s) ≡ n
-unfolding labelsFrom
+length-labels : (n : ℕ) (s : List ℕ) → length (words n s) ≡ n
+unfolding words
 length-labels zero s = refl
 length-labels (suc n) s = ap suc (length-labels n (drop 2 s))
 
 -- the label of a state
-pub label-at : (s : List ℕ) (at n x : ℕ) → x < n → getD (labelsFrom n (drop at s)) x 0 ≡ word 0 (drop (at + 2 * x) s)
+pub label-at : (s : List ℕ) (at n x : ℕ) → x < n → getD (words n (drop at s)) x 0 ≡ word 0 (drop (at + 2 * x) s)
 label-at s at zero x h = absurd (not-suc-le-zero h)
 label-at s at (suc n) zero h = rw (labels-more, add-zero)
 label-at s at (suc n) (suc x) h =
@@ -47,14 +47,14 @@ label-at s at (suc n) (suc x) h =
     rw labels-more (label-at s (at + 2) n x (le-of-suc-le-suc h) ∙ ap (λ (m : ℕ). word 0 (drop m s)) k)
 
 -- a number past the last state has label 0
-pub label-past : (s : List ℕ) (at n x : ℕ) → n ≤ x → getD (labelsFrom n (drop at s)) x 0 ≡ 0
-label-past s at n x h = List·getD-eq-default (labelsFrom n (drop at s)) 0 (rw length-labels h)
+pub label-past : (s : List ℕ) (at n x : ℕ) → n ≤ x → getD (words n (drop at s)) x 0 ≡ 0
+label-past s at n x h = List·getD-eq-default (words n (drop at s)) 0 (rw length-labels h)
 
 -- a loop over labels: while some are left, the next one is tested and the rest stand for all
 module _ (goals : ℕ) (s : List ℕ) (at left : ℕ) where
   -- the labels from the place on are in range
   abbrev All : Bool
-  All = labelsOk goals (labelsFrom left (drop at s))
+  All = labelsOk goals (words left (drop at s))
 
   -- the next one is
   abbrev Next : Bool
@@ -62,13 +62,13 @@ module _ (goals : ℕ) (s : List ℕ) (at left : ℕ) where
 
   -- those after it are
   abbrev After : Bool
-  After = labelsOk goals (labelsFrom (left - 1) (drop (at + 2) s))
+  After = labelsOk goals (words (left - 1) (drop (at + 2) s))
 
   -- one turn: the next label, and those after it
   labels-turn : 0 < left → All ≡ Next && After
   unfolding labelsOk
   labels-turn more =
-      ap (λ (n : ℕ). labelsOk goals (labelsFrom n (drop at s))) (one-less left more)
+      ap (λ (n : ℕ). labelsOk goals (words n (drop at s))) (one-less left more)
       ∙ ap (labelsOk goals) (labels-more s at (left - 1))
 
   -- the next label is in range
@@ -81,7 +81,7 @@ module _ (goals : ℕ) (s : List ℕ) (at left : ℕ) where
 
   -- none is left
   pub labels-end : left ≤ 0 → All ≡ true
-  unfolding labelsOk labelsFrom
+  unfolding labelsOk words
   labels-end none = let e : left ≡ 0 = omega arith in rw e
 
 -- the three numbers of the arrow at a place, and its rank, as a loop reads them

@@ -8,7 +8,7 @@ ghost use mathlib.Core.Bool.{true};
 ghost use Prim.Native.Nat.{_+_, _*_, _≤_};
 ghost use lib.ListN.{length, getD, drop};
 ghost use Rattle.format.specs.Checks.{labelsFine, arrowsFine};
-ghost use Rattle.statements.specs.Plants.{labelsFrom, arrowsFrom, plantOf, allowed, inGoal};
+ghost use Rattle.statements.specs.Plants.{words, arrowsFrom, plantOf, allowed, inGoal};
 ghost use Rattle.statements.specs.Plants.{headOk, labelsOk, arrowsOk};
 ghost use Rattle.statements.specs.Books.{bookLong};
 
@@ -44,7 +44,7 @@ pub(crate) fn head_ok(plant: &[u8]) -> bool
 fn labels_within(plant: &[u8], count: usize, goals: u32) -> bool
     requires room { ⌜ 16 + 2 * count ≤ length (now plant) ⌝ }
     requires few { ⌜ goals ≤ 8 ⌝ }
-    ensures { λ r. ⌜ r ≡ labelsOk goals (labelsFrom count (drop 16 (now (plant .entry)))) ⌝ }
+    ensures { λ r. ⌜ r ≡ labelsOk goals (words count (drop 16 (now (plant .entry)))) ⌝ }
 {
     let limit: u32 = 1 << (goals + 1);
     let mut at = 16;

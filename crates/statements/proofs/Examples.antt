@@ -1,7 +1,7 @@
 -- The marked examples hold of the definitions: each is computed. Assumes nothing.
 use mathlib.Core.Path.{refl}
 use Rattle.statements.specs.Sets.{bit, numbers, every, first, bits, joined, iterate, isIn, allIn, filter}
-use Rattle.statements.specs.Plants.{word, labelsFrom, arrowsFrom, plantOf, headOk, labelsOk, rank, arrowsOk}
+use Rattle.statements.specs.Plants.{word, words, arrowsFrom, plantOf, headOk, labelsOk, rank, arrowsOk}
 use Rattle.statements.specs.Plants.{plantFault, allowed, inGoal, endsIn, ends, available, goesInto, moveInto}
 use Rattle.statements.specs.Plants.{movesInto, can}
 use Rattle.statements.specs.Kept.{grown, target, forced, forcedAll, keptRound, keptWithin, level, waitOf}
@@ -19,7 +19,7 @@ use Rattle.statements.specs.Marked.{plantP, plantStill, plantLoop, plant
 use Rattle.statements.specs.Marked.{bookM1, bookM2, bookM9, allLost, Marked, Marked-moves}
 
 pub marked : Marked
-unfolding bit numbers every first joined iterate isIn allIn filter word labelsFrom arrowsFrom plantOf headOk labelsOk rank arrowsOk plantFault allowed inGoal endsIn ends available goesInto moveInto can grown target forced forcedAll keptRound keptWithin level waitOf nearer listedMove two bookLong entryOf rowOf headOf bookBytes bookStates bookMoves bookGoals bookCount bookMask waitAt moveAt isLost isHeld bookKept maskOk bookHeadOk rowsOk bookFault nextGoal lessMask bookWithin madeBook keptBefore withdrawnBook droppedStates maskFault bookRoom dropRoom makeFault alike withdrawFault consultFault rowPart answerOf writtenBy standingAfter standing answers toldOf told putBy inService bytesOf plantP plantStill plantLoop plantMay plantEnd bookP lostRow bookM1 bookM2 bookM9 allLost
+unfolding bit numbers every first joined iterate isIn allIn filter word words arrowsFrom plantOf headOk labelsOk rank arrowsOk plantFault allowed inGoal endsIn ends available goesInto moveInto can grown target forced forcedAll keptRound keptWithin level waitOf nearer listedMove two bookLong entryOf rowOf headOf bookBytes bookStates bookMoves bookGoals bookCount bookMask waitAt moveAt isLost isHeld bookKept maskOk bookHeadOk rowsOk bookFault nextGoal lessMask bookWithin madeBook keptBefore withdrawnBook droppedStates maskFault bookRoom dropRoom makeFault alike withdrawFault consultFault rowPart answerOf writtenBy standingAfter standing answers toldOf told putBy inService bytesOf plantP plantStill plantLoop plantMay plantEnd bookP lostRow bookM1 bookM2 bookM9 allLost
 marked =
     record {
       m1 = record { accepted = refl; short = refl; book = refl };
@@ -37,7 +37,7 @@ marked =
     }
 
 pub marked-moves : Marked-moves
-unfolding bit numbers every isIn allIn filter bits word labelsFrom arrowsFrom plantOf headOk labelsOk rank arrowsOk plantFault endsIn ends available goesInto movesInto two bookLong bookStates bookMoves bookGoals bookCount bookMask waitAt moveAt isLost isHeld bookKept maskOk bookHeadOk rowsOk bookFault nearerIn goodMoves alike consultFault movesFault bytesOf plantP plantMay bookP lostRow bookM1 bookM2 bookM9
+unfolding bit numbers every isIn allIn filter bits word words arrowsFrom plantOf headOk labelsOk rank arrowsOk plantFault endsIn ends available goesInto movesInto two bookLong bookStates bookMoves bookGoals bookCount bookMask waitAt moveAt isLost isHeld bookKept maskOk bookHeadOk rowsOk bookFault nearerIn goodMoves alike consultFault movesFault bytesOf plantP plantMay bookP lostRow bookM1 bookM2 bookM9
 marked-moves =
     record {
       at-goal = record { accepted = refl; moves-are = refl };

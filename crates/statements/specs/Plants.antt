@@ -11,6 +11,11 @@ use Rattle.statements.specs.Sets.{bit, consIf, allIn, first, bits}
 unfoldable pub word : ℕ → List ℕ → ℕ
 word i s = getD s (2 * i) 0 + 256 * getD s (2 * i + 1) 0
 
+-- the first n of these numbers
+unfoldable pub words : ℕ → List ℕ → List ℕ
+words zero s = []
+words (suc n) s = word 0 s ∷ words n (drop 2 s)
+
 pub record Arrow : Type 0 where
   pub from : ℕ
   pub move : ℕ
@@ -23,11 +28,7 @@ pub record Plant : Type 0 where
   pub labels : List ℕ
   pub arrows : List Arrow
 
--- the first n labels, and the first n arrows, of some bytes
-unfoldable pub labelsFrom : ℕ → List ℕ → List ℕ
-labelsFrom zero s = []
-labelsFrom (suc n) s = word 0 s ∷ labelsFrom n (drop 2 s)
-
+-- the first n arrows of some bytes
 unfoldable pub arrowsFrom : ℕ → List ℕ → List Arrow
 arrowsFrom zero s = []
 arrowsFrom (suc n) s =
@@ -40,7 +41,7 @@ plantOf s =
       states = word 0 s;
       moves = word 1 s;
       goals = word 2 s;
-      labels = labelsFrom (word 0 s) (drop 16 s);
+      labels = words (word 0 s) (drop 16 s);
       arrows = arrowsFrom (word 3 s) (drop (16 + 2 * word 0 s) s);
     }
 

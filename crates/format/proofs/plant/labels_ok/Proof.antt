@@ -5,7 +5,7 @@ use Prim.Native.Nat.{ℕ}
 use native.Mathlib.Omega.{arith}
 use lib.ListN.{drop}
 use denote.Ref.{now}
-use Rattle.statements.specs.Plants.{labelsFrom, plantOf, labelsOk}
+use Rattle.statements.specs.Plants.{words, plantOf, labelsOk}
 use Rattle.format.proofs.Header.{plant-head}
 use Rattle.format.proofs.plant.labels_ok.Statement.{statement}
 use Rattle.format.proofs.plant.labels_ok.Tie as tie
@@ -32,7 +32,7 @@ unfolding plantOf
 returns c =
     let labels = now (c .before .before .before .before .args .plant) in
     c .labels-within .ensures
-    ∙ ap₂ (λ (s n : ℕ). labelsOk n (labelsFrom s (drop 16 labels)))
+    ∙ ap₂ (λ (s n : ℕ). labelsOk n (words s (drop 16 labels)))
     (c .before .before .number .ensures) (c .before .number2 .ensures)
 
 pub labels-ok-spec : {M : Type 1} → statement M

@@ -6,7 +6,7 @@ use native.Mathlib.Omega.{arith}
 use borrow.Author.Tests.{lt-ltb, le-ltb}
 use lib.ListN.{length, drop}
 use denote.Ref.{now}
-use Rattle.statements.specs.Plants.{word, labelsFrom, labelsOk}
+use Rattle.statements.specs.Plants.{word, words, labelsOk}
 use Rattle.format.proofs.Words.{power-next}
 use Rattle.format.proofs.Parts.{labels-pass, labels-fail, labels-end}
 use Rattle.format.proofs.plant.labels_within.Statement.{statement}
@@ -15,7 +15,7 @@ use Rattle.format.proofs.plant.labels_within.Tie as tie
 abbrev Inv-loop : tie.InvT-loop
 Inv-loop plant count goals limit at₀ left₀ at left =
     (at + 2 * left ≤ length plant)
-    × (labelsOk goals (labelsFrom count (drop 16 plant)) ≡ labelsOk goals (labelsFrom left (drop at plant)))
+    × (labelsOk goals (words count (drop 16 plant)) ≡ labelsOk goals (words left (drop at plant)))
 
 abbrev μ-loop : tie.MeasureT-loop
 μ-loop plant count goals limit at₀ left₀ at left = left
