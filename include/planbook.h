@@ -41,7 +41,7 @@ extern "C" {
 typedef struct {
     uint32_t number; /* 0, or why it was refused */
     uint32_t length; /* bytes of the book written, from the buffer's first byte on */
-    uint32_t drops;  /* states dropped, two bytes each in the drop buffer; 0 in make */
+    uint32_t drops;  /* states dropped, two bytes each, from the drop buffer's first byte on; 0 in make */
 } planbook_answer;
 
 /* What consult answers. */
@@ -71,9 +71,8 @@ planbook_answer planbook_make(const uint8_t *plant, size_t plant_len, uint32_t m
 
 /*
  * Withdraws the moves of a mask from a book and writes the new book to out. The kept states are those from which a
- * strategy wins with the remaining moves without leaving states kept in the book handed in. Each state kept before and
- * lost now is written to drops, once, as a two-byte number, the low byte first; their order is not promised.
- * Refusals 1 to 7.
+ * strategy wins with the remaining moves without leaving states kept in the book handed in. The states kept before and
+ * lost now are written to drops by rising number, each as a two-byte number, the low byte first. Refusals 1 to 7.
  */
 planbook_answer planbook_withdraw(const uint8_t *plant, size_t plant_len, const uint8_t *book, size_t book_len,
                                   uint32_t mask, uint8_t *out, size_t out_len, uint8_t *drops, size_t drops_len);

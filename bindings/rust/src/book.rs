@@ -35,7 +35,7 @@ pub enum Advice {
 pub struct Withdrawn {
     /// How many bytes of the book buffer are the new book.
     pub length: usize,
-    /// How many two-byte numbers of the drop buffer are the states dropped.
+    /// How many two-byte numbers of the drop buffer are the states dropped, by rising number.
     pub drops: usize,
 }
 
@@ -71,14 +71,15 @@ pub fn make_into(plant: &[u8], mask: u32, book: &mut [u8]) -> Result<usize, Refu
 }
 
 /// Writes `book` without the moves of `mask` to the start of `out`, and the states that this drops to the start of
-/// `drops`, as little-endian two-byte numbers in no particular order. A refused call writes nothing.
+/// `drops`, by rising number, as little-endian two-byte numbers. Bytes past them stay. A refused call writes nothing.
 ///
 /// ```
 /// let plant = planbook::plants::strip().bytes();
-/// let (mut book, mut out, mut drops) = ([0; 48], [0; 48], [0; 8]);
+/// let (mut book, mut out, mut drops) = ([0; 48], [0; 48], [9; 8]);
 /// planbook::make_into(&plant, 0b111, &mut book)?;
 /// let written = planbook::withdraw_into(&plant, &book, 0b001, &mut out, &mut drops)?;
 /// assert_eq!((written.length, written.drops), (48, 3));
+/// assert_eq!(drops, [0, 0, 1, 0, 2, 0, 9, 9]); // states 0, 1 and 2, and what stood past them
 /// # Ok::<(), planbook::Refusal>(())
 /// ```
 pub fn withdraw_into(
@@ -206,15 +207,14 @@ impl Book {
         Ok(Book { plant: plant.into(), bytes: bytes.into() })
     }
 
-    /// The book without the moves of `mask`, and the states kept in this book and lost in that one, in rising order.
+    /// The book without the moves of `mask`, and the states kept in this book and lost in that one, by rising number.
     /// Naming a move that is already out of service has no effect.
     pub fn withdraw(&self, mask: u32) -> Result<(Book, Vec<u16>), Refusal> {
         let mut bytes = vec![0; self.bytes.len()];
         let mut list = [0; LONGEST_LIST];
         let written = withdraw_into(&self.plant, &self.bytes, mask, &mut bytes, &mut list)?;
         bytes.truncate(written.length);
-        let mut dropped: Vec<u16> = numbers(&list[..2 * written.drops]).collect();
-        dropped.sort_unstable();
+        let dropped = list[..2 * written.drops].chunks_exact(2).map(|pair| number(pair, 0)).collect();
         Ok((Book { plant: self.plant.clone(), bytes }, dropped))
     }
 
@@ -292,8 +292,4 @@ impl Book {
 /// The two-byte number at a place.
 fn number(bytes: &[u8], at: usize) -> u16 {
     u16::from_le_bytes([bytes[at], bytes[at + 1]])
-}
-
-fn numbers(bytes: &[u8]) -> impl Iterator<Item = u16> + '_ {
-    (0..bytes.len() / 2).map(|at| number(bytes, 2 * at))
 }

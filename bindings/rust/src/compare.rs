@@ -44,14 +44,6 @@ impl Buffer {
     fn lent(&mut self) -> &mut [u8] {
         &mut self.bytes[GUARD..GUARD + self.length]
     }
-
-    /// The first so many bytes of the buffer, put in order as two-byte numbers.
-    fn sort_numbers(&mut self, length: usize) {
-        let part = &mut self.lent()[..length];
-        let mut numbers: Vec<[u8; 2]> = part.chunks_exact(2).map(|pair| [pair[0], pair[1]]).collect();
-        numbers.sort_unstable_by_key(|&pair| u16::from_le_bytes(pair));
-        part.copy_from_slice(&numbers.concat());
-    }
 }
 
 impl<'a> Comparison<'a> {
@@ -89,7 +81,6 @@ impl<'a> Comparison<'a> {
     }
 
     /// Compares a withdrawal with buffers of these lengths, and hands back the answer and the book, empty if refused.
-    /// The dropped states may be in any order.
     pub fn withdraw(&mut self, plant: &[u8], book: &[u8], mask: u32, lengths: [usize; 2]) -> (Answer, Vec<u8>) {
         let input = || {
             let [book, plant] = [hex(book), hex(plant)];
@@ -106,9 +97,6 @@ impl<'a> Comparison<'a> {
         self.same_answer(answers, &input);
         self.same_bytes("plant", plant, &before[0], &input);
         self.same_bytes("book", book, &before[1], &input);
-        for list in &mut lists {
-            list.sort_numbers(2 * answers[0].drops as usize);
-        }
         self.same_bytes("drop buffer", &lists[0].bytes, &lists[1].bytes, &input);
         self.written(books, answers[0], &input)
     }

@@ -19,9 +19,15 @@ const SEED: u64 = 1;
 fn documents_01_and_02() {
     document::marked_examples(&Linked);
     document::further_examples(&Linked);
+    document::drop_lists(&Linked);
     document::good_moves(&Linked);
     document::good_moves_of_the_longest(&Linked);
     document::refusals(&Linked);
+}
+
+#[test]
+fn drop_lists_are_read_from_the_books() {
+    promises::drop_lists_are_read_from_the_books(&Linked);
 }
 
 #[test]

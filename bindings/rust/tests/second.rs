@@ -47,12 +47,14 @@ fn generated_plants_are_accepted() {
 fn refusals_and_limits() {
     for planner in [&Plain as &dyn Calls, &Fast] {
         document::refusals(planner);
+        document::drop_lists(planner);
         document::good_moves_of_the_longest(planner);
     }
 }
 
 #[test]
 fn promises() {
+    promises::drop_lists_are_read_from_the_books(&Fast);
     promises::sets_are_those_of_the_rule(&Fast);
     promises::picks_serve(&Fast);
 }

@@ -63,12 +63,17 @@ impl Solve for ShortWaits {
 /// The good moves of a kept state for a goal, by some rule.
 type Rule = fn(&Plant, &BookView, usize, usize) -> u32;
 
-/// A planner with a rule of its own for the good moves; all else is right.
-struct OwnRule(&'static str, Rule);
+/// A planner with a rule of its own for the good moves, and a drop list of which it makes what it likes; all else is
+/// right.
+struct Own {
+    name: &'static str,
+    rule: Rule,
+    list: fn(&mut [[u8; 2]]),
+}
 
-impl Calls for OwnRule {
+impl Calls for Own {
     fn name(&self) -> &'static str {
-        self.0
+        self.name
     }
 
     fn make(&self, plant: &[u8], mask: u32, book: &mut [u8]) -> Answer {
@@ -76,7 +81,12 @@ impl Calls for OwnRule {
     }
 
     fn withdraw(&self, plant: &[u8], book: &[u8], mask: u32, out: &mut [u8], drops: &mut [u8]) -> Answer {
-        Fast.withdraw(plant, book, mask, out, drops)
+        let answer = Fast.withdraw(plant, book, mask, out, drops);
+        let part = &mut drops[..2 * answer.drops as usize];
+        let mut numbers: Vec<[u8; 2]> = part.chunks_exact(2).map(|pair| [pair[0], pair[1]]).collect();
+        (self.list)(&mut numbers);
+        part.copy_from_slice(&numbers.concat());
+        answer
     }
 
     fn consult(&self, book: &[u8], state: u32, goal: u32) -> Advice {
@@ -91,7 +101,7 @@ impl Calls for OwnRule {
         let right = Fast.moves(plant, book, state, goal);
         match (Plant::read(plant), BookView::read(book, None)) {
             (Ok(plant), Ok(book)) if right.number == 0 && book.is_kept(state as usize) => {
-                Mask { number: 0, mask: (self.1)(&plant, &book, state as usize, goal as usize) }
+                Mask { number: 0, mask: (self.rule)(&plant, &book, state as usize, goal as usize) }
             }
             _ => right,
         }
@@ -113,27 +123,43 @@ fn rule<'a>(book: &'a BookView, state: usize, goal: usize) -> impl Fn(usize) -> 
     move |end| book.is_kept(end) && (wait == 0 || book.entry(end, goal).0 < wait)
 }
 
-const RIGHT_RULE: OwnRule =
-    OwnRule("the rule", |plant, book, state, goal| all_into(plant, book.mask, state, rule(book, state, goal)));
+/// The rule of document 02, and drop lists as they are.
+const RIGHT: Own = Own {
+    name: "right",
+    rule: |plant, book, state, goal| all_into(plant, book.mask, state, rule(book, state, goal)),
+    list: |_| {},
+};
 
-/// Rules with one fault each.
-const WRONG_RULES: [OwnRule; 5] = [
-    OwnRule("the listed move alone", |_, book, state, goal| 1 << book.entry(state, goal).1),
-    OwnRule("kept not tested at wait 0", |plant, book, state, goal| {
+const fn wrong_rule(name: &'static str, rule: Rule) -> Own {
+    Own { name, rule, ..RIGHT }
+}
+
+const fn wrong_list(name: &'static str, list: fn(&mut [[u8; 2]])) -> Own {
+    Own { name, list, ..RIGHT }
+}
+
+/// Planners with one fault each in the rule or in the drop list.
+const WRONG: [Own; 9] = [
+    wrong_rule("the listed move alone", |_, book, state, goal| 1 << book.entry(state, goal).1),
+    wrong_rule("kept not tested at wait 0", |plant, book, state, goal| {
         let good = rule(book, state, goal);
         all_into(plant, book.mask, state, |end| book.entry(state, goal).0 == 0 || good(end))
     }),
-    OwnRule("the plant's moves for the book's mask", |plant, book, state, goal| {
+    wrong_rule("the plant's moves for the book's mask", |plant, book, state, goal| {
         all_into(plant, u32::MAX, state, rule(book, state, goal))
     }),
-    OwnRule("the label's goal for the row's wait", |plant, book, state, goal| {
+    wrong_rule("the label's goal for the row's wait", |plant, book, state, goal| {
         let (wait, there) = (book.entry(state, goal).0, plant.in_goal(state, goal));
         all_into(plant, book.mask, state, |end| book.is_kept(end) && (there || book.entry(end, goal).0 < wait))
     }),
-    OwnRule("only allowed ends", |plant, book, state, goal| {
+    wrong_rule("only allowed ends", |plant, book, state, goal| {
         let good = rule(book, state, goal);
         all_into(plant, book.mask, state, |end| plant.is_allowed(end) && good(end))
     }),
+    wrong_list("dropped states by falling number", |list| list.reverse()),
+    wrong_list("dropped states by their bytes", |list| list.sort_unstable()),
+    wrong_list("dropped states high byte first", |list| list.iter_mut().for_each(|number| number.reverse())),
+    wrong_list("the last dropped state first", |list| list.rotate_right(usize::from(!list.is_empty()))),
 ];
 
 /// All random rounds, for some calls of each kind.
@@ -146,13 +172,13 @@ fn compare(planner: &dyn Calls) {
 
 #[test]
 fn wrong_planners_are_found() {
-    // No difference: what is found of the wrong rules is their faults alone.
-    compare(&RIGHT_RULE);
+    // No difference: what is found of the others is their faults alone.
+    compare(&RIGHT);
     // The differences are wanted: nothing is printed of them.
     set_hook(Box::new(|_| {}));
     let mut found = Vec::new();
     let solvers = [&Remake as &dyn Calls, &AllLost, &MayForMust, &ShortWaits];
-    for wrong in solvers.into_iter().chain(WRONG_RULES.iter().map(|rule| rule as &dyn Calls)) {
+    for wrong in solvers.into_iter().chain(WRONG.iter().map(|planner| planner as &dyn Calls)) {
         let compared = catch_unwind(AssertUnwindSafe(|| compare(wrong)));
         let message = compared.map_err(|payload| *payload.downcast::<String>().expect("a message"));
         found.push((wrong.name(), message.expect_err("a difference")));

@@ -1,6 +1,8 @@
 -- Laws of what the public calls promise.
 pub mod Consulted
 pub mod Started
-pub mod Listed
 pub mod Made
+pub mod Listed
+pub mod Determined
 pub mod Traces
+pub mod Demands

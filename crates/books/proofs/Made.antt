@@ -23,7 +23,6 @@ use Rattle.writing.proofs.Solved.{can-write, written}
 use Rattle.writing.proofs.Drops.{room-listed}
 use Rattle.books.specs.Says.{MakeSays, WithdrawSays}
 use Rattle.books.proofs.Started.{kept-same}
-use Rattle.books.proofs.Listed.{dropped-listed}
 
 module _ (p : Plant) (mask : ℕ) (test : ℕ → Bool) where
   -- flags that agree with a test on the states give the book of that test
@@ -94,8 +93,7 @@ module _ (s b : List ℕ) (gone : ℕ) (o d : List ℕ) where
         length-is = rw no;
         drops = rw no;
         book = rw no;
-        listed = λ z. absurd (h z);
-        unlisted = λ _. refl;
+        list = rw no;
       }
 
   -- the book of flags for the allowed states that the old book keeps, for the old mask less the moves withdrawn
@@ -135,6 +133,5 @@ module _ (s b : List ℕ) (gone : ℕ) (o d : List ℕ) where
         length-is = size;
         drops = rw back at ec ∙ gone-states .0;
         book = wrote;
-        listed = λ _. dropped-listed b new d room (rw back at ed ∙ gone-states .1);
-        unlisted = λ z. absurd (z refl);
+        list = rw back at ed ∙ gone-states .1;
       }

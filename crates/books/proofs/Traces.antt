@@ -11,11 +11,9 @@ use Rattle.statements.specs.Sets.{pick, over}
 use Rattle.statements.specs.Plants.{plantOf}
 use Rattle.statements.specs.Books.{madeBook, withdrawnBook}
 use Rattle.statements.specs.Calls.{makeFault, answerOf, writtenBy, standingAfter, standing, answers}
-use Rattle.demands.proofs.Demand2.{demand-2}
 use Rattle.demands.proofs.Demand3.{demand-3}
 use Rattle.books.specs.Traces.{Step, made, withdrew, answerIn, bufferIn, Keeps, nextBook, lastBook, Trace}
 use Rattle.books.specs.Traces.{numbersIn, callOf, callsOf, Begun, bookAfter, serviceAfter, Demand-3-traced}
-use Rattle.books.specs.Traces.{Demands}
 use Rattle.sets.proofs.Over.{over-back}
 
 -- what an accepted call leaves in its buffer is the book that it writes
@@ -86,7 +84,3 @@ demand-3-traced =
           (callsOf (u .steps)) (fault-zero s t) (fault-zero s u) in
           (λ h. e .0 (sym (book-is s t) ∙ h ∙ book-is s u), λ h. book-is s t ∙ e .1 h ∙ sym (book-is s u));
     }
-
--- all that the calls are held to
-pub demands : Demands
-demands = record { second = demand-2; third = demand-3; traced = demand-3-traced }

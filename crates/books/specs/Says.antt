@@ -1,18 +1,20 @@
 -- What the public calls promise, field by field, in the definitions of crate statements.
 use mathlib.Core.Path.{_≡_}
-use mathlib.Core.Bool.{Bool, _&&_, not}
-use mathlib.Core.List.{List, [], _∷_}
-use Prim.Native.Nat.{ℕ, _+_, _*_}
+use mathlib.Core.Logic.{_↔_}
+use mathlib.Core.Bool.{Bool, true, false, _&&_, not}
+use mathlib.Core.List.{List}
+use Prim.Native.Nat.{ℕ, _+_, _*_, _<_}
 use lib.Dec.{eqb}
-use lib.ListN.{length, drop}
+use lib.ListN.{length, take, drop}
 use Rattle.books.specs.declared.Advice.{Advice}
 use Rattle.books.specs.declared.Answer.{Answer}
 use Rattle.books.specs.declared.Mask.{Mask}
-use Rattle.statements.specs.Sets.{pick, over}
-use Rattle.statements.specs.Plants.{when, plantOf, words}
-use Rattle.statements.specs.Books.{bookGoals, waitAt, moveAt, isLost, nextGoal, goodMoves}
+use Rattle.statements.specs.Sets.{pick, over, isIn}
+use Rattle.statements.specs.Plants.{words, plantOf}
+use Rattle.statements.specs.Books.{bytesOf, bookGoals, waitAt, moveAt, isLost, nextGoal, goodMoves}
 use Rattle.statements.specs.Books.{madeBook, withdrawnBook, droppedStates}
 use Rattle.statements.specs.Calls.{consultFault, movesFault, makeFault, withdrawFault}
+use Rattle.statements.specs.Demands.{Rising}
 
 -- a call on a book is accepted
 unfoldable pub accepted : List ℕ → ℕ → ℕ → Bool
@@ -31,8 +33,8 @@ pub record ConsultSays (b : List ℕ) (x i : ℕ) (r : Advice) : Type 0 where
   pub wait : r .wait ≡ pick (keeps b x i) (waitAt b x i) 0
   pub seek : r .seek ≡ pick (keeps b x i) (nextGoal b x i) 0
 
--- asking for all good moves with a plant's bytes s, a book b, a state x and the goal i sought: the number is 1 to 5, 8 or
--- 0; an accepted call gives the moves that meet the entry's rule, as a mask; a refused one 0
+-- asking for all good moves with a plant's bytes s, a book b, a state x and the goal i sought: the number is 1 to 5, 8
+-- or 0; an accepted call gives the moves that meet the entry's rule, as a mask; a refused one 0
 pub record MovesSays (s b : List ℕ) (x i : ℕ) (r : Mask) : Type 0 where
   pub number : r .number ≡ movesFault s b x i
   pub mask : r .mask ≡ pick (eqb (r .number) 0) (goodMoves (plantOf s) b x i) 0
@@ -50,24 +52,34 @@ pub record MakeSays (s : List ℕ) (mask : ℕ) (o o′ : List ℕ) (r : Answer)
   pub drops : r .drops ≡ 0
   pub book : o′ ≡ pick (eqb (r .number) 0) (over (madeBook (plantOf s) mask) o) o
 
--- how often a number stands in a list
-unfoldable pub timesIn : ℕ → List ℕ → ℕ
-timesIn x [] = 0
-timesIn x (y ∷ ys) = when (eqb x y) 1 + timesIn x ys
-
--- a drop buffer that held d holds d′: each of these states once, in any order (the one thing that document 01 leaves
--- open), and past them the bytes it held
-pub record Lists (states d d′ : List ℕ) : Type 0 where
-  pub each : (x : ℕ) → timesIn x (words (length states) d′) ≡ timesIn x states
-  pub size : length d′ ≡ length d
-  pub past : drop (2 * length states) d′ ≡ drop (2 * length states) d
-
--- withdrawing moves from a book b: the number is 1 to 7 or 0; an accepted call writes the book and the list of dropped
--- states and returns the book's length and their number; a refused one writes nothing and has 0 in every other field
+-- withdrawing moves from a book b, with a drop buffer that holds d before and d′ after: the number is 1 to 7 or 0; an
+-- accepted call writes the book, and the dropped states by rising number, each from its buffer's first byte on, and
+-- returns the book's length and the number of states dropped; a refused one writes nothing and has 0 in every other
+-- field
 pub record WithdrawSays (s b : List ℕ) (gone : ℕ) (o o′ d d′ : List ℕ) (r : Answer) : Type 0 where
   pub number : r .number ≡ withdrawFault s b gone (length o) (length d)
   pub length-is : r .length ≡ pick (eqb (r .number) 0) (length (withdrawnBook (plantOf s) b gone)) 0
   pub drops : r .drops ≡ pick (eqb (r .number) 0) (length (droppedStates b (withdrawnBook (plantOf s) b gone))) 0
   pub book : o′ ≡ pick (eqb (r .number) 0) (over (withdrawnBook (plantOf s) b gone) o) o
-  pub listed : r .number ≡ 0 → Lists (droppedStates b (withdrawnBook (plantOf s) b gone)) d d′
-  pub unlisted : (r .number ≡ 0 → ⊥) → d′ ≡ d
+  pub list : d′ ≡
+      pick (eqb (r .number) 0) (over (bytesOf (droppedStates b (withdrawnBook (plantOf s) b gone))) d) d
+
+-- what an accepted withdrawal leaves in the drop buffer, as it is read: as many two-byte numbers as were returned are
+-- the states kept in the book b handed in and lost in the book written, the first bytes of o′; they strictly rise; and
+-- past them the buffer is as it was
+pub record Lists (s b o′ d d′ : List ℕ) (r : Answer) : Type 0 where
+  pub dropped : (x : ℕ) → (isIn x (words (r .drops) d′) ≡ true) ↔
+      ((x < plantOf s .states) × (isLost b x ≡ false) × (isLost (take (r .length) o′) x ≡ true))
+  pub rising : Rising (words (r .drops) d′)
+  pub size : length d′ ≡ length d
+  pub past : drop (2 * r .drops) d′ ≡ drop (2 * r .drops) d
+
+-- nothing is left open: what is handed in, the buffers' bytes included, fixes each answer and the buffers' bytes
+-- afterwards
+pub record Determined : Type 0 where
+  pub consult : {b : List ℕ} {x i : ℕ} {r r′ : Advice} → ConsultSays b x i r → ConsultSays b x i r′ → r ≡ r′
+  pub moves : {s b : List ℕ} {x i : ℕ} {r r′ : Mask} → MovesSays s b x i r → MovesSays s b x i r′ → r ≡ r′
+  pub make : {s o o′ o″ : List ℕ} {mask : ℕ} {r r′ : Answer} →
+      MakeSays s mask o o′ r → MakeSays s mask o o″ r′ → (r ≡ r′) × (o′ ≡ o″)
+  pub withdraw : {s b o o′ o″ d d′ d″ : List ℕ} {gone : ℕ} {r r′ : Answer} →
+      WithdrawSays s b gone o o′ d d′ r → WithdrawSays s b gone o o″ d d″ r′ → (r ≡ r′) × (o′ ≡ o″) × (d′ ≡ d″)

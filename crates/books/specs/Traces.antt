@@ -11,7 +11,7 @@ use Rattle.statements.specs.Sets.{pick}
 use Rattle.statements.specs.Plants.{plantOf}
 use Rattle.statements.specs.Books.{madeBook}
 use Rattle.statements.specs.Calls.{Call, makes, withdraws, told, inService}
-use Rattle.statements.specs.Demands.{Allowed, Right, Demand-2, Demand-3}
+use Rattle.statements.specs.Demands.{Allowed, Right}
 use Rattle.books.specs.Says.{MakeSays, WithdrawSays}
 
 -- a call that went: its mask, its book buffer before and after, for a withdrawal its drop buffer before and after, and
@@ -90,9 +90,3 @@ pub record Demand-3-traced : Type 0 where
   -- two such traces on one plant end with equal books exactly when the same moves are in service
   pub equal-books : (s : List ℕ) (t u : Begun s) →
       (bookAfter s t ≡ bookAfter s u) ↔ (serviceAfter s t ≡ serviceAfter s u)
-
--- the demands that the calls are held to
-pub record Demands : Type 0 where
-  pub second : Demand-2
-  pub third : Demand-3
-  pub traced : Demand-3-traced

@@ -10,7 +10,7 @@ ghost use lib.Dec.{eqb};
 ghost use lib.ListN.{length};
 ghost use Rattle.statements.specs.Calls.{rowPart};
 ghost use Rattle.books.specs.Says.{accepted, ConsultSays, MovesSays, rowStart, MakeSays, WithdrawSays};
-ghost use Rattle.books.specs.Traces.{Demands};
+ghost use Rattle.books.specs.Demands.{Demands};
 
 // What consult answers. A refused call has its number, and 0 in every other field; a lost state has `lost`, and 0 in
 // the others; otherwise the move (`action`), the wait and the goal to seek next.
@@ -120,8 +120,8 @@ pub fn make_book(plant: &[u8], mask: u32, out: &mut [u8]) -> Answer
     }
 }
 
-// Takes a plant, a book, a mask of moves to withdraw, a book buffer and a drop buffer. Writes the book, and each state
-// kept before and lost now; returns the book's length and the number dropped.
+// Takes a plant, a book, a mask of moves to withdraw, a book buffer and a drop buffer. Writes the book and, by rising
+// number, the states kept before and lost now; returns the book's length and how many they are.
 pub fn withdraw_moves(
     plant: &[u8],
     book: &[u8],

@@ -45,10 +45,10 @@ dropped-iff b after x = (
   λ h. filter-in (isLost after) (bookKept b) x (kept-iff b x .1 (h .0, h .1)) (h .2),
 )
 
--- each once
-pub dropped-once : (b after : List ℕ) → Rising (droppedStates b after)
+-- by rising number
+pub dropped-rising : (b after : List ℕ) → Rising (droppedStates b after)
 unfolding droppedStates bookKept
-dropped-once b after =
+dropped-rising b after =
     rw filter-filter (filter-rises (λ x. not (isLost b x) && isLost after x) (bookStates b) 0)
 
 -- demand 2
@@ -60,5 +60,5 @@ demand-2 =
       withdrawn = λ s b gone room drops h. right (given-withdrawn s b gone room drops h);
       dropped = λ s b gone room drops h x.
           rw (withdraw-ok s b gone room drops h .states) at (dropped-iff b (withdrawnBook (plantOf s) b gone) x);
-      once = dropped-once;
+      rising = dropped-rising;
     }

@@ -23,8 +23,8 @@ plain r = record { number = r .number; length = r .length; drops = r .drops }
 abbrev pub plainMask : Mask → planner-mask.Mask
 plainMask r = record { number = r .number; mask = r .mask }
 
--- consulting a book b for a state x and the goal i sought: a refusal's number or 0; 1 for a lost state; or the move, the
--- wait and the goal to seek next; every field that is not given is 0
+-- consulting a book b for a state x and the goal i sought: a refusal's number or 0; 1 for a lost state; or the move,
+-- the wait and the goal to seek next; every field that is not given is 0
 pub record AdviceSays (b : List ℕ) (x i : ℕ) (r : Advice) : Type 0 where
   pub number : r .number ≡ consultFault b x i
   pub lost : r .lost ≡ pick (accepted b x i && isLost b x) 1 0

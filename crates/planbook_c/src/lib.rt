@@ -64,8 +64,8 @@ pub extern "C" fn planbook_make(plant: &[u8], mask: u32, book: &mut [u8]) -> Ans
     flat(books::make_book(plant, mask, book))
 }
 
-// Takes a plant, a book, a mask of moves to withdraw, a book buffer and a drop buffer. Writes the book, and each state
-// kept before and lost now; returns the book's length and the number dropped.
+// Takes a plant, a book, a mask of moves to withdraw, a book buffer and a drop buffer. Writes the book and, by rising
+// number, the states kept before and lost now; returns the book's length and how many they are.
 #[no_mangle]
 pub extern "C" fn planbook_withdraw(
     plant: &[u8],

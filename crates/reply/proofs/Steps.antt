@@ -18,6 +18,7 @@ use Rattle.demands.proofs.Afresh.{made-alike, made-accepted, withdrawn-afresh}
 use Rattle.books.specs.declared.Answer.{Answer}
 use Rattle.books.specs.Says.{MakeSays, WithdrawSays}
 use Rattle.books.proofs.Made.{within-length}
+use Rattle.books.proofs.Listed.{lists-dropped}
 use Rattle.reply.specs.Steps.{Ready, Standing, Stepped}
 
 -- no refusal after the first
@@ -134,7 +135,11 @@ module _ {s b o d : List ℕ} (st : Standing s b o d) where
           record { number = says .number ∙ withdraw-number; book = λ z. absurd (h z); standing = λ z. absurd (h z) }
 
       module _ (zero-is : r .number ≡ 0) where
-        -- an accepted one writes the whole second buffer
+        -- an accepted one leaves the drop buffer as long as it was
+        drops-long : length d′ ≡ length d
+        drops-long = lists-dropped s b gone o o′ d d′ r says zero-is .size
+
+        -- and writes the whole second buffer
         whole : o′ ≡ withdrawnBook (plantOf s) b gone
         whole =
             let size : length o ≡ length (withdrawnBook (plantOf s) b gone) =
@@ -165,7 +170,7 @@ module _ {s b o d : List ℕ} (st : Standing s b o d) where
                           plant = st .ready .plant;
                           first = ap length copied ∙ sym (ap length whole) ∙ written-long;
                           second = written-long;
-                          drops = omega (arith, st .ready .drops, says .listed zero-is .size);
+                          drops = omega (arith, st .ready .drops, drops-long);
                         };
                     mask = lessMask (st .mask) gone;
                     mask-ok = less-ok (plantOf s .moves) (st .mask) gone (st .mask-ok);

@@ -92,12 +92,13 @@ pub record Demand-2 : Type 0 where
   -- and for that of a withdrawal from any book, also one that nobody made
   pub withdrawn : (s b : List ℕ) (gone room drops : ℕ) → withdrawFault s b gone room drops ≡ 0 →
       Right (plantOf s) (lessMask (bookMask b) gone) (KeptBefore (plantOf s) b) (withdrawnBook (plantOf s) b gone)
-  -- the drop list: the states kept before and lost now, each once
+  -- the drop list: the states kept before and lost now
   pub dropped : (s b : List ℕ) (gone room drops : ℕ) → withdrawFault s b gone room drops ≡ 0 → (x : ℕ) →
       let after = withdrawnBook (plantOf s) b gone in
       (isIn x (droppedStates b after) ≡ true) ↔
       ((x < plantOf s .states) × (isLost b x ≡ false) × (isLost after x ≡ true))
-  pub once : (b after : List ℕ) → Rising (droppedStates b after)
+  -- by rising number, as request (ii) says, and so each once
+  pub rising : (b after : List ℕ) → Rising (droppedStates b after)
 
 -- demand 3: after any list of calls that follows an accepted make
 pub record Demand-3 : Type 0 where

@@ -1,8 +1,8 @@
 //! What document 01 fixes by hand: the marked examples M1 to M11, and the table of refusals with its edges; and what
-//! request (i) of document 02 says of the good moves, worked out by hand. Run on any planner.
+//! requests (i) and (ii) of document 02 say of the good moves and of drop lists, worked out by hand. Run on any planner.
 
 use planbook::calls::Calls;
-use planbook::plants::{self, bytes_of};
+use planbook::plants::{self, bytes_of, Model};
 use planbook::sys::{Advice, Answer, Mask, Part};
 
 const LOST: u16 = u16::MAX;
@@ -35,12 +35,10 @@ fn check_withdrawal(planner: &dyn Calls, book: &[u8], mask: u32, expected: &[u8]
     let answer = planner.withdraw(&bytes_of(&P), book, mask, &mut out, &mut list);
     assert_eq!(answer, Answer { number: 0, length: 48, drops: dropped.len() as u32 });
     assert_eq!(out[..48], *expected);
-    let mut written: Vec<u16> = list.chunks_exact(2).map(|pair| u16::from_le_bytes([pair[0], pair[1]])).collect();
-    let past = written.split_off(dropped.len());
-    written.sort_unstable();
-    assert_eq!(written, dropped);
     assert_eq!((out[48], out[49]), (0xa5, 0xa5), "bytes past the book stay");
-    assert!(past.iter().all(|&number| number == 0xa5a5), "bytes past the list stay");
+    let (written, past) = list.split_at(2 * dropped.len());
+    assert_eq!(written, bytes_of(dropped), "by rising number");
+    assert!(past.iter().all(|&byte| byte == 0xa5), "bytes past the list stay");
 }
 
 /// M1 to M11.
@@ -98,6 +96,26 @@ pub fn further_examples(planner: &dyn Calls) {
     let mut rows = M1_ROWS;
     rows[12..].fill(0);
     check_withdrawal(planner, &book_of_p(4, 7, rows), 0, &book_of_p(3, 7, M1_ROWS), &[3]);
+}
+
+/// Drop lists of a plant of 1,024 states, by hand. Each state is in the one goal and stays there by the moves of its
+/// own: move 0, and every third state move 1 too. Without move 0 the others are dropped, without both all are.
+pub fn drop_lists(planner: &dyn Calls) {
+    let stays = |state: u16| (0..if state % 3 == 0 { 2 } else { 1 }).map(move |action| [state, action, state]);
+    let arrows = (0..1024).flat_map(stays).collect();
+    let plant = Model { moves: 2, goals: 1, labels: vec![3; 1024], arrows }.bytes();
+    let mut book = vec![0; 16 + 4 * 1024];
+    assert_eq!(planner.make(&plant, 3, &mut book).number, 0);
+    let check = |mask, dropped: &[u16]| {
+        let (mut out, mut list) = (book.clone(), vec![0xa5; 2051]);
+        let answer = planner.withdraw(&plant, &book, mask, &mut out, &mut list);
+        assert_eq!((answer.number, answer.drops as usize), (0, dropped.len()));
+        assert_eq!(list, [bytes_of(dropped), vec![0xa5; 2051 - 2 * dropped.len()]].concat());
+    };
+    check(0, &[]);
+    check(1, &(0..1024).filter(|state| state % 3 != 0).collect::<Vec<u16>>());
+    check(2, &[]);
+    check(3, &(0..1024).collect::<Vec<u16>>());
 }
 
 /// The good moves for each state and goal in turn, as masks.

@@ -1,5 +1,6 @@
-//! What request (i) of document 02 promises of the good moves in a book that make or withdraw wrote for the plant:
-//! which they are, and that any pick from them serves. Run on any planner; nothing is compared with another.
+//! What requests (i) and (ii) of document 02 promise of the books that make or withdraw wrote for a plant: which the good
+//! moves are, that any pick from them serves, and what a drop list says of the books before and after. Run on any
+//! planner; nothing is compared with another.
 
 use planbook::calls::Calls;
 use planbook::plants::{self, Model, Random, FAMILIES};
@@ -17,11 +18,18 @@ fn make(planner: &dyn Calls, model: &Model, mask: u32) -> Vec<u8> {
     book
 }
 
+/// The book without the moves of a mask, and the drop list.
+fn withdraw_listed(planner: &dyn Calls, model: &Model, book: &[u8], mask: u32) -> (Vec<u8>, Vec<u16>) {
+    let (mut out, mut drops) = (book.to_vec(), vec![0; 2 * model.labels.len()]);
+    let answer = planner.withdraw(&model.bytes(), book, mask, &mut out, &mut drops);
+    assert_eq!(answer.number, 0);
+    drops.truncate(2 * answer.drops as usize);
+    (out, drops.chunks_exact(2).map(|pair| u16::from_le_bytes([pair[0], pair[1]])).collect())
+}
+
 /// The book without the moves of a mask.
 fn withdraw(planner: &dyn Calls, model: &Model, book: &[u8], mask: u32) -> Vec<u8> {
-    let (mut out, mut drops) = (book.to_vec(), vec![0; 2 * model.labels.len()]);
-    assert_eq!(planner.withdraw(&model.bytes(), book, mask, &mut out, &mut drops).number, 0);
-    out
+    withdraw_listed(planner, model, book, mask).0
 }
 
 /// What is read from a book that was written.
@@ -38,6 +46,30 @@ fn any_book(planner: &dyn Calls, random: &mut Random) -> (Model, Vec<u8>) {
         book = withdraw(planner, &model, &book, 1 << random.below(model.moves.into()));
     }
     (model, book)
+}
+
+/// A drop list strictly rises, and a state is in it exactly when its row is kept in the book before and lost in the one
+/// after.
+pub fn drop_lists_are_read_from_the_books(planner: &dyn Calls) {
+    // How many lists have no state, one, and more, and how many reach past state 255.
+    let (mut sizes, mut high) = ([0; 3], 0);
+    for seed in 0..4_000 {
+        let random = &mut Random::new(seed);
+        let (model, book) = any_book(planner, random);
+        let (after, list) = withdraw_listed(planner, &model, &book, random.bits() as u32 & model.every_move());
+        let (before, after) = (read(&book), read(&after));
+        assert!(list.windows(2).all(|pair| pair[0] < pair[1]), "the list of seed {seed} rises: {list:?}");
+        for state in 0..before.states {
+            let dropped = before.is_kept(state) && !after.is_kept(state);
+            assert_eq!(list.contains(&(state as u16)), dropped, "state {state} in the list of seed {seed}: {list:?}");
+        }
+        assert!(list.iter().all(|&state| usize::from(state) < before.states), "states alone, seed {seed}: {list:?}");
+        sizes[list.len().min(2)] += 1;
+        high += u64::from(list.len() > 1 && list.last() > Some(&255));
+    }
+    let [none, one, more] = sizes;
+    println!("{}: {none} empty drop lists, {one} of one state, {more} of more, {high} past 255", planner.name());
+    assert!(none > 1_000 && one > 50 && more > 500 && high > 50);
 }
 
 /// A plant and a mask with a move and move 0 in each other's place.

@@ -3,7 +3,7 @@
 use borrow.Author.Needs.{needs}
 use mathlib.Core.Path.{sym, _∙_}
 use borrow.Author.Tests.{ne-eqb}
-use Rattle.books.proofs.Traces.{demands}
+use Rattle.books.proofs.Demands.{demands}
 use Rattle.books.proofs.good_moves.Statement.{statement}
 use Rattle.books.proofs.good_moves.Tie as tie
 

@@ -7,7 +7,7 @@ use lib.ListN.{length}
 use Rattle.statements.specs.Calls.{makeFault}
 use Rattle.decoding.proofs.Faults.{MakeOk, make-ok, states-few}
 use Rattle.books.proofs.Made.{make-refused, make-done}
-use Rattle.books.proofs.Traces.{demands}
+use Rattle.books.proofs.Demands.{demands}
 use borrow.Author.Needs.{needs}
 use Rattle.books.proofs.make_book.Statement.{statement}
 use Rattle.books.proofs.make_book.Tie as tie

@@ -13,7 +13,7 @@ use Rattle.statements.specs.Calls.{withdrawFault}
 use Rattle.decoding.proofs.Faults.{WithdrawOk, withdraw-ok, states-few}
 use Rattle.writing.proofs.Solved.{written-fits}
 use Rattle.books.proofs.Made.{withdraw-refused, withdraw-done}
-use Rattle.books.proofs.Traces.{demands}
+use Rattle.books.proofs.Demands.{demands}
 use borrow.Author.Needs.{needs}
 use Rattle.books.proofs.withdraw_moves.Statement.{statement}
 use Rattle.books.proofs.withdraw_moves.Tie as tie

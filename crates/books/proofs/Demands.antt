@@ -1,0 +1,17 @@
+-- All that the calls are held to. Assumes nothing.
+use Rattle.demands.proofs.Demand2.{demand-2}
+use Rattle.demands.proofs.Demand3.{demand-3}
+use Rattle.books.specs.Demands.{Demands}
+use Rattle.books.proofs.Listed.{lists-dropped}
+use Rattle.books.proofs.Determined.{determined}
+use Rattle.books.proofs.Traces.{demand-3-traced}
+
+pub demands : Demands
+demands =
+    record {
+      second = demand-2;
+      third = demand-3;
+      traced = demand-3-traced;
+      listed = lists-dropped;
+      determined = determined;
+    }

@@ -1,0 +1,20 @@
+-- What the calls that make, withdraw and give all good moves are held to, in one record: their contracts cite it.
+use mathlib.Core.Path.{_≡_}
+use mathlib.Core.List.{List}
+use Prim.Native.Nat.{ℕ}
+use Rattle.books.specs.declared.Answer.{Answer}
+use Rattle.statements.specs.Demands.{Demand-2, Demand-3}
+use Rattle.books.specs.Says.{WithdrawSays, Lists, Determined}
+use Rattle.books.specs.Traces.{Demand-3-traced}
+
+pub record Demands : Type 0 where
+  -- kept states, waits and moves are those of strategies
+  pub second : Demand-2
+  -- after any list of calls the book is the one made afresh; over lists of masks and lengths, and over calls as they go
+  pub third : Demand-3
+  pub traced : Demand-3-traced
+  -- the drop list of every accepted withdrawal
+  pub listed : (s b : List ℕ) (gone : ℕ) (o o′ d d′ : List ℕ) (r : Answer) →
+      WithdrawSays s b gone o o′ d d′ r → r .number ≡ 0 → Lists s b o′ d d′ r
+  -- nothing that the calls answer or write is left open
+  pub determined : Determined
