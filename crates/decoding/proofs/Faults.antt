@@ -38,10 +38,11 @@ pub record PlantOk (p : Plant) : Type 0 where
   pub labels-ok : labelsOk (p .goals) (p .labels) ≡ true
   pub arrows-ok : arrowsOk (p .states) (p .moves) 0 (p .arrows) ≡ true
 
-labels-length : (n : ℕ) (s : List ℕ) → length (words n s) ≡ n
+-- as many numbers are read as are asked for
+pub words-length : (n : ℕ) (s : List ℕ) → length (words n s) ≡ n
 unfolding words
-labels-length zero s = refl
-labels-length (suc n) s = ap suc (labels-length n (drop 2 s))
+words-length zero s = refl
+words-length (suc n) s = ap suc (words-length n (drop 2 s))
 
 -- an accepted plant's three tests
 pub plant-tests : (s : List ℕ) → plantFault s ≡ 0
@@ -62,7 +63,7 @@ plant-ok s h =
     let head = simp and-iff at (tests .0) in
     record {
       sizes = omega (arith, leb-true);
-      labels-long = labels-length (word 0 s) (drop 16 s);
+      labels-long = words-length (word 0 s) (drop 16 s);
       labels-ok = tests .1;
       arrows-ok = tests .2;
     }

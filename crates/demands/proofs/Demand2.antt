@@ -18,7 +18,7 @@ use Rattle.demands.proofs.Plants.{given-made, given-withdrawn}
 use Rattle.demands.proofs.Books.{right}
 
 -- the states kept in any book
-pub kept-iff : (b : List ℕ) (x : ℕ) → (isIn x (bookKept b) ≡ true) ↔ ((x < bookStates b) × (isLost b x ≡ false))
+kept-iff : (b : List ℕ) (x : ℕ) → (isIn x (bookKept b) ≡ true) ↔ ((x < bookStates b) × (isLost b x ≡ false))
 unfolding bookKept
 kept-iff b x =
     let all = numbers (bookStates b) 0 in (
@@ -32,7 +32,7 @@ kept-iff b x =
     )
 
 -- the drop list: the states kept in the one book and lost in the other
-pub dropped-iff :
+dropped-iff :
     (b after : List ℕ) (x : ℕ) →
     (isIn x (droppedStates b after) ≡ true) ↔
     ((x < bookStates b) × (isLost b x ≡ false) × (isLost after x ≡ true))
@@ -46,7 +46,7 @@ dropped-iff b after x = (
 )
 
 -- by rising number
-pub dropped-rising : (b after : List ℕ) → Rising (droppedStates b after)
+dropped-rising : (b after : List ℕ) → Rising (droppedStates b after)
 unfolding droppedStates bookKept
 dropped-rising b after =
     rw filter-filter (filter-rises (λ x. not (isLost b x) && isLost after x) (bookStates b) 0)

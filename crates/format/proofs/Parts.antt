@@ -1,5 +1,5 @@
 -- Labels and arrows of a plant one after another: what a loop has left from a place on. Assumes nothing.
-use mathlib.Core.Path.{_≡_, refl, ap, _∙_}
+use mathlib.Core.Path.{_≡_, ap, _∙_}
 use mathlib.Core.Bool.{Bool, true, false, _&&_, and-assoc}
 use mathlib.Core.List.{List, _∷_}
 use Prim.Native.Nat.{ℕ, zero, suc, _+_, _-_, _*_, _^_, _≤_, _<_}
@@ -7,9 +7,10 @@ use native.Mathlib.Nat.{not-suc-le-zero, le-of-suc-le-suc, add-zero}
 use native.Mathlib.Numerals.{add-one}
 use native.Mathlib.Omega.{arith}
 use lib.Dec.{ltb, leb}
-use lib.ListN.{length, getD, drop, List·getD-eq-default}
+use lib.ListN.{getD, drop, List·getD-eq-default}
 use lib.Seq.{drop-drop}
 use Rattle.statements.specs.Plants.{word, Arrow, words, arrowsFrom, labelsOk, rank, arrowsOk}
+use Rattle.decoding.proofs.Faults.{words-length}
 use Rattle.format.proofs.Words.{word-further}
 
 -- a number that is not 0 is one more than its predecessor
@@ -32,12 +33,6 @@ module _ (s : List ℕ) (at k : ℕ) where
   unfolding arrowsFrom
   arrows-more = rw (drop-drop 6, word-further s at 1, word-further s at 2)
 
--- as many labels as asked for
-length-labels : (n : ℕ) (s : List ℕ) → length (words n s) ≡ n
-unfolding words
-length-labels zero s = refl
-length-labels (suc n) s = ap suc (length-labels n (drop 2 s))
-
 -- the label of a state
 pub label-at : (s : List ℕ) (at n x : ℕ) → x < n → getD (words n (drop at s)) x 0 ≡ word 0 (drop (at + 2 * x) s)
 label-at s at zero x h = absurd (not-suc-le-zero h)
@@ -48,7 +43,7 @@ label-at s at (suc n) (suc x) h =
 
 -- a number past the last state has label 0
 pub label-past : (s : List ℕ) (at n x : ℕ) → n ≤ x → getD (words n (drop at s)) x 0 ≡ 0
-label-past s at n x h = List·getD-eq-default (words n (drop at s)) 0 (rw length-labels h)
+label-past s at n x h = List·getD-eq-default (words n (drop at s)) 0 (rw words-length h)
 
 -- a loop over labels: while some are left, the next one is tested and the rest stand for all
 module _ (goals : ℕ) (s : List ℕ) (at left : ℕ) where

@@ -1,5 +1,5 @@
--- Demands 2 and 3, and what request (i) says of the books written, stated: these records are what the product claims of
--- its books. The proofs are in crate demands.
+-- Demands 2 and 3, and what requests (i) and (ii) say of the books written and of drop lists, stated: these records are
+-- what the product claims of its books. The proofs are in crate demands.
 use mathlib.Core.Path.{_≡_}
 use mathlib.Core.Logic.{_↔_}
 use mathlib.Core.Bool.{true, false}
