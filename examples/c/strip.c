@@ -25,6 +25,14 @@ static void print_drops(planbook_answer answer) {
     printf("\n");
 }
 
+/* Says so, if a call was refused. */
+static int refused(const char *call, planbook_answer answer) {
+    if (answer.number != 0) {
+        printf("%s refused %u\n", call, (unsigned)answer.number);
+    }
+    return answer.number != 0;
+}
+
 int main(void) {
     static const uint16_t numbers[36] = {
         4, 3, 2, 8, 16, 24, 72, 0, /* header: S, U, N, E, labels at, arrows at, length, 0 */
@@ -36,13 +44,12 @@ int main(void) {
     pack(plant, numbers, 36);
 
     planbook_answer answer = planbook_make(plant, sizeof plant, 7, made, sizeof made);
-    if (answer.number != 0) {
-        printf("make refused %u\n", (unsigned)answer.number);
+    if (refused("make", answer)) {
         return 1;
     }
-    answer = planbook_withdraw(plant, sizeof plant, made, answer.length, 4, patched, sizeof patched, drops, sizeof drops);
-    if (answer.number != 0) {
-        printf("withdraw refused %u\n", (unsigned)answer.number);
+    answer =
+        planbook_withdraw(plant, sizeof plant, made, answer.length, 4, patched, sizeof patched, drops, sizeof drops);
+    if (refused("withdraw", answer)) {
         return 1;
     }
     printf("withdrew move 2: %u bytes, ", (unsigned)answer.length);
@@ -59,7 +66,11 @@ int main(void) {
                    (unsigned)row.start, (unsigned)row.length);
         }
     }
-    answer = planbook_withdraw(plant, sizeof plant, patched, answer.length, 1, again, sizeof again, drops, sizeof drops);
+    answer =
+        planbook_withdraw(plant, sizeof plant, patched, answer.length, 1, again, sizeof again, drops, sizeof drops);
+    if (refused("withdraw", answer)) {
+        return 1;
+    }
     printf("withdrew move 0 too: %u bytes, ", (unsigned)answer.length);
     print_drops(answer);
     return planbook_consult(again, answer.length, 4, 0).number == 8 ? 0 : 1;

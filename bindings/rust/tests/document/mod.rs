@@ -98,8 +98,9 @@ pub fn further_examples(planner: &dyn Calls) {
     check_withdrawal(planner, &book_of_p(4, 7, rows), 0, &book_of_p(3, 7, M1_ROWS), &[3]);
 }
 
-/// Drop lists of a plant of 1,024 states, by hand. Each state is in the one goal and stays there by the moves of its
-/// own: move 0, and every third state move 1 too. Without move 0 the others are dropped, without both all are.
+/// Drop lists of a plant of 1,024 states, by hand, in buffers that are just long enough, longer, and too short by one
+/// byte. Each state is in the one goal and stays there by the moves of its own: move 0, and every third state move 1
+/// too. Without move 0 the others are dropped, without both all are.
 pub fn drop_lists(planner: &dyn Calls) {
     let stays = |state: u16| (0..if state % 3 == 0 { 2 } else { 1 }).map(move |action| [state, action, state]);
     let arrows = (0..1024).flat_map(stays).collect();
@@ -107,10 +108,13 @@ pub fn drop_lists(planner: &dyn Calls) {
     let mut book = vec![0; 16 + 4 * 1024];
     assert_eq!(planner.make(&plant, 3, &mut book).number, 0);
     let check = |mask, dropped: &[u16]| {
-        let (mut out, mut list) = (book.clone(), vec![0xa5; 2051]);
-        let answer = planner.withdraw(&plant, &book, mask, &mut out, &mut list);
-        assert_eq!((answer.number, answer.drops as usize), (0, dropped.len()));
-        assert_eq!(list, [bytes_of(dropped), vec![0xa5; 2051 - 2 * dropped.len()]].concat());
+        for length in [2048, 2051] {
+            let (mut out, mut list) = (book.clone(), vec![0xa5; length]);
+            let answer = planner.withdraw(&plant, &book, mask, &mut out, &mut list);
+            assert_eq!((answer.number, answer.drops as usize), (0, dropped.len()));
+            assert_eq!(list, [bytes_of(dropped), vec![0xa5; length - 2 * dropped.len()]].concat());
+        }
+        check_withdraw(planner, &plant, &book, mask, [book.len(), 2047], 7);
     };
     check(0, &[]);
     check(1, &(0..1024).filter(|state| state % 3 != 0).collect::<Vec<u16>>());
