@@ -3,3 +3,4 @@ pub mod Sieves
 pub mod Marks
 pub mod Columns
 pub mod Rows
+pub mod Ordered

@@ -8,11 +8,11 @@ use native.Mathlib.Omega.{arith}
 use lib.Dec.{eqb, leb}
 use lib.ListN.{length, getD, take}
 use borrow.Author.Tests.{leb-true, le-leb, lt-leb, eq-eqb, ne-eqb}
-use Rattle.statements.specs.Sets.{numbers, filter, over}
+use Rattle.statements.specs.Sets.{filter, over}
 use Rattle.statements.specs.Books.{lostMark}
 use Rattle.sets.proofs.Tests.{and-left, and-right}
 use Rattle.sets.proofs.Numbers.{every-all, every-none}
-use Rattle.arrays.specs.Lists.{fitting, flagged, flagList, stays, stayList}
+use Rattle.arrays.specs.Lists.{fitting, stays, stayList}
 
 -- a list that fits, and one that is too long
 pub fitting-yes : (xs old : List ℕ) → length xs ≤ length old → fitting xs old ≡ xs
@@ -59,23 +59,11 @@ pub stay-fits : (entries : List ℕ) (goals n : ℕ) (list : List ℕ) → n ≤
 unfolding stayList
 stay-fits entries goals n list h g = rw (le-leb n (length list) h, le-leb goals 65536 g)
 
--- and the flagged places are listed
-pub flag-fits : (start : List ℕ) (n : ℕ) (all : List ℕ) → n ≤ length start → n ≤ length all → n ≤ 65536
-    → flagList start n all ≡ filter (flagged start) (numbers n 0)
-unfolding flagList
-flag-fits start n all a b c = rw (le-leb n (length start) a, le-leb n (length all) b, le-leb n 65536 c)
-
 -- where there is not, nothing is done
 pub stay-off : (entries : List ℕ) (goals n : ℕ) (list : List ℕ) → leb n (length list) && leb goals 65536 ≡ false
     → (0 ≡ length (stayList entries goals n list)) × (list ≡ over (stayList entries goals n list) list)
 unfolding stayList over
 stay-off entries goals n list e = (rw e refl, rw e refl)
-
-pub flag-off : (start : List ℕ) (n : ℕ) (all : List ℕ)
-    → leb n (length start) && (leb n (length all) && leb n 65536) ≡ false
-    → (0 ≡ length (flagList start n all)) × (all ≡ over (flagList start n all) all)
-unfolding flagList over
-flag-off start n all e = (rw e refl, rw e refl)
 
 -- what a guard of two tests, and of three, says
 pub two-tests : (a b c d : ℕ) → leb a b && leb c d ≡ true → (a ≤ b) × (c ≤ d)

@@ -1,13 +1,13 @@
 -- A list whose front is written over number by number, and sieved from what is read. Assumes nothing.
-use mathlib.Core.Path.{_≡_, refl, ap, _∙_}
+use mathlib.Core.Path.{_≡_, refl, sym, ap, ap₂, _∙_}
 use mathlib.Core.Bool.{Bool, true, false}
 use mathlib.Core.List.{List, [], _∷_, _++_, append-nil}
-use Prim.Native.Nat.{ℕ, _+_, _≤_, _<_}
+use Prim.Native.Nat.{ℕ, _+_, _-_, _≤_, _<_}
 use native.Mathlib.Numerals.{add-one}
 use native.Mathlib.Omega.{arith}
-use lib.ListN.{length, getD, take, set, length-append}
+use lib.ListN.{length, getD, take, set, length-append, length-set}
 use lib.Seq.{take-suc, length-take-le}
-use Rattle.statements.specs.Sets.{filter, over}
+use Rattle.statements.specs.Sets.{consIf, filter, over}
 use Rattle.sets.proofs.Members.{filter-length, filter-snoc}
 use Rattle.sets.proofs.Over.{over-none, over-length, over-back, over-at, over-one}
 
@@ -26,33 +26,83 @@ copy-more from old new k h room e =
     let more = over-one (take k from) old (getD from k 0) (omega arith) in
     rw (e, add-one, take-suc from k 0 h) (rw n at more)
 
--- the front of a list is what passes a test of a list read so far
-pub record Sieved (f : ℕ → Bool) (xs old new : List ℕ) (left : ℕ) : Type 0 where
-  pub new-is : new ≡ over (filter f xs) old
-  pub left-is : left ≡ length (filter f xs)
+-- a loop that strikes out of the first `count` numbers of a list those that fail a test: k are read, the ones that
+-- passed stand at the front, and `kept` is how many they are together with those not read yet
+pub record Sieved (f : ℕ → Bool) (count : ℕ) (old new : List ℕ) (kept k : ℕ) : Type 0 where
+  pub within : k ≤ count
+  pub room : count ≤ length old
+  pub size : length new ≡ length old
+  pub most : kept ≤ count
+  pub least : count ≤ kept + k
+  pub list : new ≡ over (filter f (take k old)) old
+  pub number : kept + k ≡ count + length (filter f (take k old))
 
--- nothing is read yet
-pub sieve-none : (f : ℕ → Bool) (old : List ℕ) → Sieved f [] old old 0
+-- nothing is read yet, and all are kept
+pub sieve-start : (f : ℕ → Bool) (count : ℕ) (old : List ℕ) → count ≤ length old → Sieved f count old old count 0
 unfolding filter
-sieve-none f old = record { new-is = over-none old; left-is = refl }
+sieve-start f count old h =
+    record {
+      within = omega arith;
+      room = h;
+      size = refl;
+      most = omega arith;
+      least = omega arith;
+      list = over-none old;
+      number = refl;
+    }
 
-module _ (f : ℕ → Bool) (xs old new : List ℕ) (left x : ℕ) (so-far : Sieved f xs old new left) where
-  -- what was not read is as it was
-  pub sieve-at : (k : ℕ) → length xs ≤ k → getD new k 0 ≡ getD old k 0
-  sieve-at k h = rw (so-far .new-is) (over-at (filter f xs) old k (omega (arith, filter-length f xs)))
+module _ {f : ℕ → Bool} {count : ℕ} {old new : List ℕ} {kept k : ℕ} (r : Sieved f count old new kept k) where
+  -- all are read: those that passed stand at the front, and the number kept is exactly theirs
+  pub sieve-end : k ≡ count → (kept ≡ length (filter f (take count old))) × (new ≡ over (filter f (take count old)) old)
+  sieve-end e =
+      let here = rw e at (r .number) in
+      (omega arith, rw e at (r .list))
 
-  -- one that passes is put behind the front
-  pub sieve-yes : length xs < length old → f x ≡ true → Sieved f (xs ++ (x ∷ [])) old (set new left x) (left + 1)
-  sieve-yes room e =
-      let more : filter f (xs ++ (x ∷ [])) ≡ filter f xs ++ (x ∷ []) = rw (filter-snoc f xs x, e) refl in
-      record {
-        new-is = rw (so-far .new-is, so-far .left-is, more)
-            (over-one (filter f xs) old x (omega (arith, filter-length f xs)));
-        left-is = rw (more, length-append) (ap (λ (n : ℕ). n + 1) (so-far .left-is));
-      }
+  module _ (more : k < count) where
+    -- the next number is as it was, and is read with those before it
+    passing : length (filter f (take k old)) ≤ k
+    passing = omega (arith, filter-length f (take k old), length-take-le k old (omega (arith, r .room)))
 
-  -- one that fails is left out
-  pub sieve-no : f x ≡ false → Sieved f (xs ++ (x ∷ [])) old new left
-  sieve-no e =
-      let same : filter f (xs ++ (x ∷ [])) ≡ filter f xs = rw (filter-snoc f xs x, e) (append-nil (filter f xs)) in
-      record { new-is = rw same (so-far .new-is); left-is = rw same (so-far .left-is) }
+    next-is : take (k + 1) old ≡ take k old ++ (getD new k 0 ∷ [])
+    next-is =
+        let same = over-at (filter f (take k old)) old k passing in
+        rw (r .list, same, add-one) (take-suc old k 0 (omega (arith, r .room)))
+
+    next-filter : filter f (take (k + 1) old) ≡ filter f (take k old) ++ consIf (f (getD new k 0)) (getD new k 0) []
+    next-filter = ap (filter f) next-is ∙ filter-snoc f (take k old) (getD new k 0)
+
+    -- one that passes closes up to the front, by as many places as numbers were struck out
+    pub sieve-yes : f (getD new k 0) ≡ true
+        → Sieved f count old (set new (k - (count - kept)) (getD new k 0)) kept (k + 1)
+    sieve-yes t =
+        let x = getD new k 0 in
+        let both : filter f (take (k + 1) old) ≡ filter f (take k old) ++ (x ∷ []) = rw t at next-filter in
+        let long = ap length both ∙ length-append (filter f (take k old)) (x ∷ []) in
+        let place : k - (count - kept) ≡ length (filter f (take k old)) = omega (arith, passing, r .number) in
+        let put = over-one (filter f (take k old)) old x (omega (arith, passing, r .room)) in
+        record {
+          within = omega arith;
+          room = r .room;
+          size = length-set new (k - (count - kept)) x ∙ r .size;
+          most = r .most;
+          least = omega (arith, r .least);
+          list = ap₂ (λ (l : List ℕ) (i : ℕ). set l i x) (r .list) place ∙ put
+              ∙ ap (λ (ys : List ℕ). over ys old) (sym both);
+          number = omega (arith, r .number);
+        }
+
+    -- one that fails is struck out, and one less is kept
+    pub sieve-no : f (getD new k 0) ≡ false → Sieved f count old new (kept - 1) (k + 1)
+    sieve-no t =
+        let same : filter f (take (k + 1) old) ≡ filter f (take k old) =
+        rw t at next-filter ∙ append-nil (filter f (take k old)) in
+        let some : 0 < kept = omega (arith, r .least) in
+        record {
+          within = omega arith;
+          room = r .room;
+          size = r .size;
+          most = omega (arith, r .most);
+          least = omega (arith, r .number, passing);
+          list = rw same (r .list);
+          number = rw same (omega (arith, r .number));
+        }

@@ -1,10 +1,10 @@
 -- What each loop over slices of 16-bit numbers leaves in its slice, as a list.
-use mathlib.Core.Bool.{Bool, _&&_, not}
+use mathlib.Core.Bool.{Bool, true, _&&_, not}
 use mathlib.Core.List.{List, [], _∷_}
 use Prim.Native.Nat.{ℕ, zero, suc, _+_, _*_}
 use lib.Dec.{eqb, ltb, leb}
 use lib.ListN.{length, getD, take, set}
-use Rattle.statements.specs.Sets.{pick, every, numbers, filter}
+use Rattle.statements.specs.Sets.{pick, every, isIn, filter}
 use Rattle.statements.specs.Books.{lostMark}
 
 -- a list that fits over another; none where it is longer
@@ -16,14 +16,14 @@ unfoldable pub zeroed : List ℕ → List ℕ → List ℕ
 zeroed [] old = old
 zeroed (x ∷ xs) old = zeroed xs (set old x 0)
 
--- the places with flag 1 stand for a set
-unfoldable pub flagged : List ℕ → ℕ → Bool
-flagged start x = eqb (getD start x 0) 1
+-- the numbers of a list, as a test
+unfoldable pub among : List ℕ → ℕ → Bool
+among xs x = isIn x xs
 
--- the places with a flag among the first n, where there is a flag and room for each; else none
-unfoldable pub flagList : List ℕ → ℕ → List ℕ → List ℕ
-flagList start n all =
-    pick (leb n (length start) && (leb n (length all) && leb n 65536)) (filter (flagged start) (numbers n 0)) []
+-- the numbers of a list strictly rise, from one number on and below another
+unfoldable pub rising : ℕ → ℕ → List ℕ → Bool
+rising least limit [] = true
+rising least limit (x ∷ xs) = leb least x && (ltb x limit && rising (suc x) limit xs)
 
 -- a state's row is within the entries, and has no mark in place of a wait
 unfoldable pub stays : List ℕ → ℕ → ℕ → Bool

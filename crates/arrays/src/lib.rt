@@ -4,7 +4,7 @@ ghost use mathlib.Core.Path.{_≡_};
 ghost use Prim.Native.Nat.{_≤_};
 ghost use lib.ListN.{length};
 ghost use Rattle.statements.specs.Sets.{over};
-ghost use Rattle.arrays.specs.Lists.{fitting, zeroed, flagList, stays, stayList, stored};
+ghost use Rattle.arrays.specs.Lists.{fitting, zeroed, rising, stays, stayList, stored};
 
 // Copies a list over the front of another.
 pub fn copy(from: &[u16], to: &mut [u16])
@@ -34,26 +34,21 @@ pub fn mark(listed: &[u16], to: &mut [u16])
     }
 }
 
-// Lists the places with flag 1 among the first `states`, rising; returns how many.
-pub fn flags(start: &[u8], states: usize, all: &mut [u16]) -> usize
-    ensures count { λ r. ⌜ r ≡ length (flagList (now (start .entry)) states (now (all .entry))) ⌝ }
-    ensures list { λ _. ⌜ now (all .exit)
-        ≡ over (flagList (now (start .entry)) states (now (all .entry))) (now (all .entry)) ⌝ }
+// Whether the numbers of a list strictly rise and are below a limit.
+pub fn rises(list: &[u16], limit: usize) -> bool
+    ensures { λ r. ⌜ r ≡ rising 0 limit (now (list .entry)) ⌝ }
 {
-    let fits = (states <= start.len()) & ((states <= all.len()) & (states <= 65536));
-    if !fits {
-        return 0;
-    }
-    let mut x = 0;
-    let mut count = 0;
-    while x < states {
-        if start[x] == 1 {
-            all[count] = x as u16;
-            count += 1;
+    let mut least = 0;
+    let mut k = 0;
+    while k < list.len() {
+        let x = list[k] as usize;
+        if (x < least) | (limit <= x) {
+            return false;
         }
-        x += 1;
+        least = x + 1;
+        k += 1;
     }
-    count
+    true
 }
 
 // Writes a goal's column of entries: wait and move of each state.
@@ -106,7 +101,8 @@ fn stay(entries: &[u16], goals: usize, state: u16) -> bool
     true
 }
 
-// Keeps those of the first `count` states of a list that have a wait for each goal, at its front; returns how many.
+// Strikes out those of the first `count` states of a list that have no wait for some goal. The others close up at its
+// front; returns how many are left.
 pub fn cut(list: &mut [u16], count: usize, goals: usize, entries: &[u16]) -> usize
     ensures count { λ r. ⌜ r ≡ length (stayList (now (entries .entry)) goals count (now (list .entry))) ⌝ }
     ensures list { λ _. ⌜ now (list .exit)
@@ -116,15 +112,16 @@ pub fn cut(list: &mut [u16], count: usize, goals: usize, entries: &[u16]) -> usi
     if !fits {
         return 0;
     }
+    let mut kept = count;
     let mut k = 0;
-    let mut left = 0;
     while k < count {
         let state = list[k];
         if stay(entries, goals, state) {
-            list[left] = state;
-            left += 1;
+            list[k - (count - kept)] = state;
+        } else {
+            kept -= 1;
         }
         k += 1;
     }
-    left
+    kept
 }

@@ -1,23 +1,27 @@
--- Making and withdrawing: the book that flags of states give, and what the calls answer, refused and accepted. Assumes
+-- Making and withdrawing: the book within a list of states, and what the calls answer, refused and accepted. Assumes
 -- nothing.
 use mathlib.Core.Path.{_≡_, refl, sym, ap, _∙_}
-use mathlib.Core.Bool.{Bool, true}
+use mathlib.Core.Bool.{Bool, true, _&&_, not, and-comm}
 use mathlib.Core.List.{List}
-use Prim.Native.Nat.{ℕ, _-_, _*_, _≤_, _<_}
+use Prim.Native.Nat.{ℕ, _-_, _*_, _≤_}
 use native.Mathlib.Omega.{arith}
 use lib.ListN.{length, take}
+use lib.Seq.{length-take-le}
 use lib.Bits.{bitAnd}
 use borrow.Author.Tests.{ne-eqb, leb-true}
-use Rattle.statements.specs.Sets.{over}
+use Rattle.statements.specs.Sets.{numbers, filter, over}
 use Rattle.statements.specs.Plants.{Plant, plantOf, plantFault, allowed}
 use Rattle.statements.specs.Kept.{keptWithin}
-use Rattle.statements.specs.Books.{bookBytes, bookLong, bookStates, bookMask, lessMask, bookWithin}
+use Rattle.statements.specs.Books.{bookBytes, bookLong, bookStates, bookMask, isLost, bookKept, lessMask, bookWithin}
 use Rattle.statements.specs.Books.{madeBook, keptBefore, withdrawnBook}
 use Rattle.statements.specs.Calls.{bookRoom, dropRoom, makeFault, withdrawFault}
+use Rattle.sets.proofs.Members.{filter-same, filter-filter, filter-length, length-numbers}
 use Rattle.sets.proofs.Over.{over-back}
-use Rattle.decoding.proofs.Faults.{make-ok, withdraw-ok, states-few}
+use Rattle.decoding.proofs.Faults.{make-ok, withdraw-ok}
 use Rattle.decoding.proofs.Header.{book-length}
-use Rattle.arrays.specs.Lists.{flagged}
+use Rattle.arrays.specs.Lists.{among}
+use Rattle.arrays.proofs.Ordered.{filter-rising}
+use Rattle.arrays.proofs.Sieves.{over-done}
 use Rattle.writing.specs.Written.{writtenLong, writtenBook, droppedCount, writtenDrops}
 use Rattle.writing.proofs.Solved.{can-write, written}
 use Rattle.writing.proofs.Drops.{room-listed}
@@ -25,11 +29,11 @@ use Rattle.books.specs.Says.{MakeSays, WithdrawSays}
 use Rattle.books.proofs.Started.{kept-same}
 
 module _ (p : Plant) (mask : ℕ) (test : ℕ → Bool) where
-  -- flags that agree with a test on the states give the book of that test
-  pub within-same : (flags : List ℕ) → ((x : ℕ) → x < p .states → flagged flags x ≡ test x)
-      → bookWithin p mask (flagged flags) ≡ bookWithin p mask test
+  -- a list of the states at which a test holds gives the book of that test
+  within-same : (start : List ℕ) → start ≡ filter test (numbers (p .states) 0)
+      → bookWithin p mask (among start) ≡ bookWithin p mask test
   unfolding bookWithin
-  within-same flags h = ap (bookBytes p mask) (kept-same p mask (flagged flags) test h)
+  within-same start e = ap (bookBytes p mask) (kept-same p mask test start e)
 
   -- the length of a book
   pub within-length : length (bookWithin p mask test) ≡ bookLong (p .states) (p .goals)
@@ -45,14 +49,48 @@ pub drops-fit : (p : Plant) (room : ℕ) → dropRoom p room ≡ true → 2 * p 
 unfolding dropRoom
 drops-fit p room h = leb-true _ _ h
 
--- a book for an accepted plant, with a flag for each state there can be and room for the book, is written
-within-written : (s : List ℕ) (mask : ℕ) (flags o : List ℕ) → plantFault s ≡ 0 → bookRoom (plantOf s) (length o) ≡ true
-    → 1024 ≤ length flags
-    → (writtenLong s flags o ≡ bookLong (plantOf s .states) (plantOf s .goals))
-    × (writtenBook s mask flags o ≡ over (bookWithin (plantOf s) mask (flagged flags)) o)
-within-written s mask flags o fine room size =
-    written s mask flags o
-    (can-write s flags o fine (omega (arith, states-few s fine)) (book-fits (plantOf s) (length o) room))
+-- a book for an accepted plant, from a list of the states at which a test holds and with room for it, is written
+within-written : (s : List ℕ) (mask : ℕ) (test : ℕ → Bool) (start o : List ℕ)
+    → start ≡ filter test (numbers (plantOf s .states) 0) → plantFault s ≡ 0 → bookRoom (plantOf s) (length o) ≡ true
+    → (writtenLong s start o ≡ bookLong (plantOf s .states) (plantOf s .goals))
+    × (writtenBook s mask start o ≡ over (bookWithin (plantOf s) mask test) o)
+within-written s mask test start o e fine room =
+    let p = plantOf s in
+    let w = written s mask start o
+    (can-write s start o fine (rw e (filter-rising test (p .states))) (book-fits p (length o) room)) in
+    (w .0, w .1 ∙ ap (λ (b : List ℕ). over b o) (within-same p mask test start e))
+
+-- striking out the states that are not allowed leaves the others at the front of the list
+pub struck : (p : Plant) (list new xs old : List ℕ) {count kept : ℕ} → list ≡ over xs old → count ≡ length xs
+    → count ≤ length list → kept ≡ length (filter (allowed p) (take count list))
+    → new ≡ over (filter (allowed p) (take count list)) list
+    → (kept ≤ length new) × (take kept new ≡ filter (allowed p) xs)
+struck p list new xs old {count} {kept} began exact room number e =
+    let front : take count list ≡ xs = ap (take count) began ∙ over-back xs old count exact in
+    let few = filter-length (allowed p) (take count list) in
+    let left = over-done (filter (allowed p) (take count list)) list new kept
+    (omega (arith, length-take-le count list room)) number e in
+    (left .0, left .1 ∙ ap (filter (allowed p)) front)
+
+-- a book keeps no more states than it has
+pub kept-few : (b : List ℕ) → length (bookKept b) ≤ bookStates b
+unfolding bookKept
+kept-few b =
+    omega (
+      arith,
+      filter-length (λ x. not (isLost b x)) (numbers (bookStates b) 0),
+      length-numbers (bookStates b) 0,
+    )
+
+-- the allowed ones of the states that a book keeps
+kept-before : (p : Plant) (b : List ℕ) → bookStates b ≡ p .states
+    → filter (allowed p) (bookKept b) ≡ filter (keptBefore p b) (numbers (p .states) 0)
+unfolding bookKept keptBefore
+kept-before p b e =
+    rw e
+    (filter-filter (allowed p) (λ x. not (isLost b x)) (numbers (p .states) 0)
+    ∙ filter-same (λ x. not (isLost b x) && allowed p x) (λ x. allowed p x && not (isLost b x)) (numbers (p .states) 0)
+    (λ x m. and-comm (not (isLost b x)) (allowed p x)))
 
 -- what make answers
 module _ (s : List ℕ) (mask : ℕ) (o : List ℕ) where
@@ -63,22 +101,21 @@ module _ (s : List ℕ) (mask : ℕ) (o : List ℕ) where
       let no = ne-eqb n 0 h in
       record { number = e; length-is = rw no; drops = refl; book = rw no }
 
-  -- accepted: the book of flags for the allowed states is written
-  pub make-done : (flags : List ℕ) (long : ℕ) {o′ : List ℕ} → makeFault s mask (length o) ≡ 0
-      → 1024 ≤ length flags
-      → ((x : ℕ) → x < plantOf s .states → flagged flags x ≡ allowed (plantOf s) x)
-      → long ≡ writtenLong s flags o → o′ ≡ writtenBook s mask flags o
+  -- accepted: the book within the allowed states is written
+  pub make-done : (start : List ℕ) (long : ℕ) {o′ : List ℕ} → makeFault s mask (length o) ≡ 0
+      → start ≡ filter (allowed (plantOf s)) (numbers (plantOf s .states) 0)
+      → long ≡ writtenLong s start o → o′ ≡ writtenBook s mask start o
       → MakeSays s mask o o′ (record { number = 0; length = long; drops = 0 })
   unfolding madeBook
-  make-done flags long e size h el eo =
+  make-done start long e h el eo =
       let p = plantOf s in
       let ok = make-ok s mask (length o) e in
-      let w = within-written s mask flags o (ok .plant) (ok .room-ok) size in
+      let w = within-written s mask (allowed p) start o h (ok .plant) (ok .room-ok) in
       record {
         number = sym e;
         length-is = el ∙ w .0 ∙ sym (within-length p mask (allowed p));
         drops = refl;
-        book = eo ∙ w .1 ∙ ap (λ (b : List ℕ). over b o) (within-same p mask (allowed p) flags h);
+        book = eo ∙ w .1;
       }
 
 -- what withdraw answers
@@ -96,35 +133,31 @@ module _ (s b : List ℕ) (gone : ℕ) (o d : List ℕ) where
         list = rw no;
       }
 
-  -- the book of flags for the allowed states that the old book keeps, for the old mask less the moves withdrawn
-  withdrawn-is : (flags : List ℕ) (old : ℕ) → old ≡ bookMask b
-      → ((x : ℕ) → x < plantOf s .states → flagged flags x ≡ keptBefore (plantOf s) b x)
-      → bookWithin (plantOf s) (old - bitAnd old gone) (flagged flags) ≡ withdrawnBook (plantOf s) b gone
-  unfolding withdrawnBook lessMask
-  withdrawn-is flags old e h =
-      rw e (within-same (plantOf s) (lessMask (bookMask b) gone) (keptBefore (plantOf s) b) flags h)
-
-  -- its length
+  -- the length of the book
   withdrawn-length : length (withdrawnBook (plantOf s) b gone) ≡ bookLong (plantOf s .states) (plantOf s .goals)
   unfolding withdrawnBook
   withdrawn-length = within-length (plantOf s) (lessMask (bookMask b) gone) (keptBefore (plantOf s) b)
 
-  -- accepted: that book is written, and the states dropped, by what is read back of it
-  pub withdraw-done : (flags : List ℕ) (old long count : ℕ) {o′ d′ : List ℕ}
+  -- accepted: the book within the allowed states that the old book keeps is written, for the old mask less the moves
+  -- withdrawn, and the states dropped, by what is read back of it
+  pub withdraw-done : (start : List ℕ) (old long count : ℕ) {o′ d′ : List ℕ}
       → withdrawFault s b gone (length o) (length d) ≡ 0
-      → 1024 ≤ length flags
-      → ((x : ℕ) → x < plantOf s .states → flagged flags x ≡ keptBefore (plantOf s) b x)
+      → start ≡ filter (allowed (plantOf s)) (bookKept b)
       → old ≡ bookMask b
-      → long ≡ writtenLong s flags o → o′ ≡ writtenBook s (old - bitAnd old gone) flags o
+      → long ≡ writtenLong s start o → o′ ≡ writtenBook s (old - bitAnd old gone) start o
       → count ≡ droppedCount b (take long o′) d → d′ ≡ writtenDrops b (take long o′) d
       → WithdrawSays s b gone o o′ d d′ (record { number = 0; length = long; drops = count })
-  withdraw-done flags old long count {o′} e many h em el eo ec ed =
+  unfolding withdrawnBook lessMask
+  withdraw-done start old long count {o′} e h em el eo ec ed =
       let p = plantOf s in
       let ok = withdraw-ok s b gone (length o) (length d) e in
       let new = withdrawnBook p b gone in
-      let w = within-written s (old - bitAnd old gone) flags o (ok .plant) (ok .room-ok) many in
+      let less : old - bitAnd old gone ≡ lessMask (bookMask b) gone = ap (λ (m : ℕ). lessMask m gone) em in
+      let w = within-written s (old - bitAnd old gone) (keptBefore p b) start o (h ∙ kept-before p b (ok .states))
+      (ok .plant) (ok .room-ok) in
       let size : long ≡ length new = el ∙ w .0 ∙ sym withdrawn-length in
-      let wrote : o′ ≡ over new o = eo ∙ w .1 ∙ ap (λ (l : List ℕ). over l o) (withdrawn-is flags old em h) in
+      let wrote : o′ ≡ over new o =
+      eo ∙ w .1 ∙ ap (λ (m : ℕ). over (bookWithin p m (keptBefore p b)) o) less in
       let back : take long o′ ≡ new = ap (take long) wrote ∙ over-back new o long size in
       let room : 2 * bookStates b ≤ length d = omega (arith, drops-fit p (length d) (ok .drops-ok), ok .states) in
       let gone-states = room-listed b new d room in

@@ -1,76 +1,128 @@
--- Flags of states, as a loop over the states sets them, and the states kept by what the flags say. Assumes nothing.
-use mathlib.Core.Path.{_≡_, refl, ap, _∙_}
-use mathlib.Core.Logic.{inl, inr}
+-- The states that a making or a withdrawal begins with, as the loops list them, and the states kept within a list.
+-- Assumes nothing.
+use mathlib.Core.Path.{_≡_, refl, sym, ap, _∙_}
 use mathlib.Core.Bool.{Bool, true, false}
-use mathlib.Core.List.{List}
-use Prim.Native.Nat.{ℕ, _+_, _≤_, _<_}
+use mathlib.Core.List.{List, [], _∷_, _++_}
+use Prim.Native.Nat.{ℕ, suc, _+_, _-_, _≤_, _<_}
+use native.Mathlib.Numerals.{add-one}
 use native.Mathlib.Omega.{arith}
-use lib.Dec.{eqb}
-use lib.ListN.{length, set, length-set}
-use lib.Seq.{getD-set-same, getD-set-other}
-use mir.Val.{boolByte}
-use Rattle.statements.specs.Sets.{numbers, iterate}
+use lib.ListN.{length, getD, take, drop, set, length-append, length-set, take-append-drop}
+use lib.Seq.{take-suc, append-snoc, length-take-le, set-at}
+use Rattle.statements.specs.Sets.{numbers, iterate, consIf, filter, over}
 use Rattle.statements.specs.Plants.{Plant}
 use Rattle.statements.specs.Kept.{forcedAll, keptRound, keptWithin}
-use Rattle.arrays.specs.Lists.{flagged}
-use Rattle.sets.proofs.Tests.{same-number}
-use Rattle.sets.proofs.Members.{filter-same, numbers-holds}
+use Rattle.arrays.specs.Lists.{among}
+use Rattle.sets.proofs.Members.{sifted-filter, filter-length, filter-snoc, length-numbers, numbers-more}
+use Rattle.sets.proofs.Over.{over-one}
 
--- the flag that was set, and any other one
-flag-set : (l : List ℕ) (x v : ℕ) → x < length l → flagged (set l x v) x ≡ eqb v 1
-unfolding flagged
-flag-set l x v h = rw (getD-set-same l x v 0 h)
+-- a loop that lists the states: one more
+pub states-more : (old new : List ℕ) (x : ℕ) → x < length old → new ≡ over (numbers x 0) old
+    → set new x x ≡ over (numbers (x + 1) 0) old
+states-more old new x h e =
+    let long = length-numbers x 0 in
+    let more = over-one (numbers x 0) old x (omega arith) in
+    rw (e, numbers-more) (rw long at more)
 
-flag-other : (l : List ℕ) (x y v : ℕ) → (y ≡ x → ⊥) → flagged (set l x v) y ≡ flagged l y
-unfolding flagged
-flag-other l x y v h = rw (getD-set-other l x y v 0 h)
-
--- a test as a flag
-flag-byte : (t : Bool) → eqb (boolByte t) 1 ≡ t
-flag-byte true = refl
-flag-byte false = refl
-
--- a loop over n states: state x is next, and the flags passed are as a test says
-pub record FlagsSoFar (want : ℕ → Bool) (n : ℕ) (l l′ : List ℕ) (x : ℕ) : Type 0 where
-  pub few : n < 65536
-  pub room : n ≤ length l
-  pub size : length l′ ≡ length l
+-- a loop from the last of n states down to state x: the places from `at` on hold the later states that pass a test, and
+-- as many places are left as earlier ones pass it
+pub record Filled (f : ℕ → Bool) (n : ℕ) (old new : List ℕ) (x at : ℕ) : Type 0 where
   pub within : x ≤ n
-  pub passed : (y : ℕ) → y < x → flagged l′ y ≡ want y
+  pub few : n ≤ 1024
+  pub room : n ≤ length old
+  pub size : length new ≡ length old
+  pub place : at ≡ length (filter f (numbers x 0))
+  pub list : new ≡ take at old ++ (filter f (numbers (n - x) x) ++ drop (length (filter f (numbers n 0))) old)
 
--- where the loop begins
-pub flags-start : (want : ℕ → Bool) (n : ℕ) (l : List ℕ) → n < 65536 → n ≤ length l → FlagsSoFar want n l l 0
-flags-start want n l f h =
+-- nothing is listed yet, and as many places are left as states pass
+pub fill-start : (f : ℕ → Bool) (n : ℕ) (old : List ℕ) (at : ℕ) → n ≤ 1024 → n ≤ length old
+    → at ≡ length (filter f (numbers n 0)) → Filled f n old old n at
+unfolding numbers filter
+fill-start f n old at few h e =
+    let none : n - n ≡ 0 = omega arith in
     record {
-      few = f;
+      within = omega arith;
+      few = few;
       room = h;
       size = refl;
-      within = omega arith;
-      passed = λ y b. absurd (omega arith);
+      place = e;
+      list = rw (none, ← e) (sym (take-append-drop at old));
     }
 
-module _ {want : ℕ → Bool} {n : ℕ} {l l′ : List ℕ} {x : ℕ} (r : FlagsSoFar want n l l′ x) (more : x < n) where
-  -- the next flag is set
-  pub flags-more : (t : Bool) → t ≡ want x → FlagsSoFar want n l (set l′ x (boolByte t)) (x + 1)
-  flags-more t e =
-      let v = boolByte t in
-      let short : x < length l′ = omega (arith, r .room, r .size) in
+-- a run of states with its first one
+numbers-first : (n y : ℕ) → y < n → numbers (n - y) y ≡ y ∷ numbers (n - (y + 1)) (y + 1)
+unfolding numbers
+numbers-first n y h =
+    let one : n - y ≡ suc (n - (y + 1)) = omega arith in
+    rw (one, add-one y)
+
+module _ (f : ℕ → Bool) (n : ℕ) (old new : List ℕ) (x at y : ℕ) (so-far : Filled f n old new x at) (e : x ≡ y + 1) where
+  -- how many pass before the state and with it, and which pass from it on
+  earlier : length (filter f (numbers x 0)) ≡ length (filter f (numbers y 0)) + length (consIf (f y) y [])
+  earlier = rw (e, numbers-more, filter-snoc) (length-append (filter f (numbers y 0)) (consIf (f y) y []))
+
+  later : filter f (numbers (n - y) y) ≡ consIf (f y) y (filter f (numbers (n - x) x))
+  unfolding filter
+  later = rw e (ap (filter f) (numbers-first n y (omega (arith, so-far .within))))
+
+  -- it passes: there is a place for it
+  pub fill-place : f y ≡ true → (0 < at) × (at ≤ length old)
+  fill-place t =
+      let some = rw t at earlier in
+      let few = filter-length f (numbers x 0) in
+      let long = length-numbers x 0 in
+      (omega (arith, so-far .place), omega (arith, so-far .place, so-far .room, so-far .within))
+
+  -- and it is listed there
+  pub fill-yes : f y ≡ true → Filled f n old (set new (at - 1) y) y (at - 1)
+  fill-yes t =
+      let m = at - 1 in
+      let left = fill-place t in
+      let some = rw t at earlier in
+      let passed = drop (length (filter f (numbers n 0))) old in
+      let ends = filter f (numbers (n - x) x) ++ passed in
+      let back : at ≡ suc m = omega arith in
+      let front : take at old ≡ take m old ++ (getD old m 0 ∷ []) =
+      ap (λ (k : ℕ). take k old) back ∙ take-suc old m 0 (omega arith) in
+      let whole : new ≡ take m old ++ (getD old m 0 ∷ ends) =
+      so-far .list ∙ ap (λ (l : List ℕ). l ++ ends) front ∙ append-snoc (take m old) (getD old m 0) ends in
+      let long = length-take-le m old (omega arith) in
       record {
-        few = r .few;
-        room = r .room;
-        size = length-set l′ x v ∙ r .size;
-        within = omega arith;
-        passed = λ y b.
-            elim (same-number y x) [
-              | inl s ↦ rw s (flag-set l′ x v short ∙ flag-byte t ∙ e)
-              | inr d ↦ flag-other l′ x y v d ∙ r .passed y (omega arith)
-            ];
+        within = omega (arith, so-far .within);
+        few = so-far .few;
+        room = so-far .room;
+        size = length-set new m y ∙ so-far .size;
+        place = omega (arith, so-far .place);
+        list = ap (λ (l : List ℕ). set l m y) whole ∙ set-at (take m old) (getD old m 0) ends y m long
+            ∙ ap (λ (l : List ℕ). take m old ++ (l ++ passed)) (sym (rw t at later));
       }
 
--- tests that agree on the states keep the same states
-pub kept-same : (p : Plant) (mask : ℕ) (f g : ℕ → Bool) → ((x : ℕ) → x < p .states → f x ≡ g x)
-    → keptWithin p mask f ≡ keptWithin p mask g
-unfolding keptWithin keptRound
-kept-same p mask f g h =
+  -- it does not pass
+  pub fill-no : f y ≡ false → Filled f n old new y at
+  fill-no t =
+      let none = rw t at earlier in
+      record {
+        within = omega (arith, so-far .within);
+        few = so-far .few;
+        room = so-far .room;
+        size = so-far .size;
+        place = omega (arith, so-far .place);
+        list = so-far .list
+            ∙ ap (λ (l : List ℕ). take at old ++ (l ++ drop (length (filter f (numbers n 0))) old))
+            (sym (rw t at later));
+      }
+
+-- all are listed
+pub fill-end : (f : ℕ → Bool) (n : ℕ) (old new : List ℕ) (at : ℕ) → Filled f n old new 0 at
+    → new ≡ over (filter f (numbers n 0)) old
+unfolding numbers filter over
+fill-end f n old new at r =
+    let all : n - 0 ≡ n = omega arith in
+    r .list ∙ rw (r .place, all)
+
+-- the states kept within a list of those at which a test holds
+pub kept-same : (p : Plant) (mask : ℕ) (test : ℕ → Bool) (xs : List ℕ) → xs ≡ filter test (numbers (p .states) 0)
+    → keptWithin p mask (among xs) ≡ keptWithin p mask test
+unfolding keptWithin keptRound among
+kept-same p mask test xs e =
     ap (iterate (p .states) (forcedAll (p .goals) p mask))
-    (filter-same f g (numbers (p .states) 0) (λ x m. h x (omega (arith, numbers-holds (p .states) 0 x m))))
+    (rw e (sym (sifted-filter test (numbers (p .states) 0))))

@@ -110,9 +110,10 @@ pub fn make_book(plant: &[u8], mask: u32, out: &mut [u8]) -> Answer
             drops: 0,
         };
     }
-    let mut flags = [0u8; 1024];
-    start::allowed(plant, &mut flags);
-    let length = writing::book(plant, mask, &flags, out);
+    let mut list = [0u16; 1024];
+    let all = start::states(plant, &mut list);
+    let kept = start::allowed(plant, &mut list, all);
+    let length = writing::book(plant, mask, &list[..kept], out);
     Answer {
         number: 0,
         length: length,
@@ -141,10 +142,11 @@ pub fn withdraw_moves(
             drops: 0,
         };
     }
-    let mut flags = [0u8; 1024];
-    start::kept(plant, book, &mut flags);
+    let mut list = [0u16; 1024];
+    let before = start::kept(book, &mut list);
+    let kept = start::allowed(plant, &mut list, before);
     let old = rows::mask(book);
-    let length = writing::book(plant, old - (old & mask), &flags, out);
+    let length = writing::book(plant, old - (old & mask), &list[..kept], out);
     let count = writing::dropped(book, &out[..length as usize], drops);
     Answer {
         number: 0,

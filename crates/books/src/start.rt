@@ -1,40 +1,71 @@
-// The states that strategies may not leave, as a flag for each state: 1 for those states, 0 for the others.
+// The states that strategies may not leave, as a rising list, and how many they are. A making begins with all states, a
+// withdrawal with those that the old book keeps; then the ones that are not allowed are struck out.
 use format::plant::is_allowed;
 use format::word::number;
 use rows::is_lost;
 ghost use mathlib.Core.Path.{_≡_};
-ghost use Prim.Native.Nat.{ℕ, _≤_, _<_};
-ghost use lib.ListN.{length};
+ghost use Prim.Native.Nat.{_≤_};
+ghost use lib.ListN.{length, take};
+ghost use Rattle.statements.specs.Sets.{numbers, filter, over};
 ghost use Rattle.statements.specs.Plants.{plantOf, allowed};
-ghost use Rattle.statements.specs.Books.{keptBefore};
-ghost use Rattle.arrays.specs.Lists.{flagged};
+ghost use Rattle.statements.specs.Books.{bookStates, bookKept, bookFault};
 
-// In a making: the allowed states.
-pub(crate) fn allowed(plant: &[u8], start: &mut [u8])
-    requires room { ⌜ plantOf (now plant) .states ≤ length (now start) ⌝ }
-    ensures flags { λ _. ⌜ ((x : ℕ) → x < plantOf (now (plant .entry)) .states →
-        flagged (now (start .exit)) x ≡ allowed (plantOf (now (plant .entry))) x) ⌝ }
-    ensures size { λ _. ⌜ length (now (start .exit)) ≡ length (now (start .entry)) ⌝ }
+// Lists all states of a plant; returns how many they are.
+pub(crate) fn states(plant: &[u8], list: &mut [u16]) -> usize
+    requires room { ⌜ plantOf (now plant) .states ≤ length (now list) ⌝ }
+    ensures number { λ r. ⌜ r ≡ plantOf (now (plant .entry)) .states ⌝ }
+    ensures list { λ _. ⌜ now (list .exit)
+        ≡ over (numbers (plantOf (now (plant .entry)) .states) 0) (now (list .entry)) ⌝ }
 {
-    let states = number(plant, 0) as usize;
+    let count = number(plant, 0);
     let mut x = 0;
-    while x < states {
-        start[x] = is_allowed(plant, x as u32) as u8;
+    while x < count {
+        list[x as usize] = x;
         x += 1;
     }
+    count as usize
 }
 
-// In a withdrawal: the allowed states that the old book keeps.
-pub(crate) fn kept(plant: &[u8], book: &[u8], start: &mut [u8])
-    requires room { ⌜ plantOf (now plant) .states ≤ length (now start) ⌝ }
-    ensures flags { λ _. ⌜ ((x : ℕ) → x < plantOf (now (plant .entry)) .states →
-        flagged (now (start .exit)) x ≡ keptBefore (plantOf (now (plant .entry))) (now (book .entry)) x) ⌝ }
-    ensures size { λ _. ⌜ length (now (start .exit)) ≡ length (now (start .entry)) ⌝ }
+// Lists the states that a book keeps; returns how many they are. Its header says that, and the list is filled from that
+// place down.
+pub(crate) fn kept(book: &[u8], list: &mut [u16]) -> usize
+    requires accepted { ⌜ bookFault (now book) ≡ 0 ⌝ }
+    requires room { ⌜ bookStates (now book) ≤ length (now list) ⌝ }
+    ensures number { λ r. ⌜ r ≡ length (bookKept (now (book .entry))) ⌝ }
+    ensures list { λ _. ⌜ now (list .exit) ≡ over (bookKept (now (book .entry))) (now (list .entry)) ⌝ }
 {
-    let states = number(plant, 0) as usize;
-    let mut x = 0;
-    while x < states {
-        start[x] = (is_allowed(plant, x as u32) & !is_lost(book, x as u32)) as u8;
-        x += 1;
+    let count = number(book, 3) as usize;
+    let mut at = count;
+    let mut x = number(book, 0);
+    while 0 < x {
+        x -= 1;
+        if !is_lost(book, x as u32) {
+            at -= 1;
+            list[at] = x;
+        }
     }
+    count
+}
+
+// Strikes out the states that are not allowed. Takes the states kept, at the front of a list, and their number; leaves
+// those still kept there, and hands on their number.
+pub(crate) fn allowed(plant: &[u8], list: &mut [u16], count: usize) -> usize
+    requires room { ⌜ count ≤ length (now list) ⌝ }
+    ensures number { λ r. ⌜ r
+        ≡ length (filter (allowed (plantOf (now (plant .entry)))) (take count (now (list .entry)))) ⌝ }
+    ensures still { λ _. ⌜ now (list .exit) ≡ over
+        (filter (allowed (plantOf (now (plant .entry)))) (take count (now (list .entry)))) (now (list .entry)) ⌝ }
+{
+    let mut kept = count;
+    let mut k = 0;
+    while k < count {
+        let state = list[k];
+        if is_allowed(plant, state as u32) {
+            list[k - (count - kept)] = state;
+        } else {
+            kept -= 1;
+        }
+        k += 1;
+    }
+    kept
 }

@@ -2,7 +2,7 @@
 -- Assumes nothing.
 use mathlib.Core.Path.{_≡_, refl, sym, ap}
 use mathlib.Core.Logic.{_↔_, inl, inr}
-use mathlib.Core.Bool.{Bool, true, false, _&&_, not, true≢false}
+use mathlib.Core.Bool.{Bool, true, false, _&&_, _||_, not, true≢false}
 use mathlib.Core.List.{List, [], _∷_}
 use Prim.Native.Nat.{ℕ, zero, suc, _*_, _≤_, _<_}
 use native.Mathlib.Nat.{mul-le-mul}
@@ -11,11 +11,11 @@ use native.Mathlib.Decide.{decLt}
 use lib.Dec.{eqb, ltb, leb}
 use lib.ListN.{length, drop, List·getD-eq-default}
 use borrow.Author.Tests.{ltb-true, leb-true, eqb-true}
-use Rattle.statements.specs.Sets.{bit, isIn}
+use Rattle.statements.specs.Sets.{every, bit, isIn}
 use Rattle.statements.specs.Plants.{word, Arrow, Plant, words, plantOf, headOk, labelsOk, arrowsOk, rank}
 use Rattle.statements.specs.Plants.{firstOf, when, plantFault, allowed, endsIn}
 use Rattle.statements.specs.Books.{bookLong, bookStates, bookMoves, bookGoals, bookMask, maskOk, bookHeadOk, rowsOk}
-use Rattle.statements.specs.Books.{bookFault}
+use Rattle.statements.specs.Books.{bookCount, isLost, isHeld, bookKept, bookFault}
 use Rattle.statements.specs.Calls.{maskFault, bookRoom, dropRoom, makeFault, alike, withdrawFault, makes, withdraws}
 use Rattle.statements.specs.Calls.{toldOf}
 use Rattle.sets.proofs.Tests.{and-left, and-right, and-iff}
@@ -118,12 +118,14 @@ pub record BookOk (b : List ℕ) : Type 0 where
   pub mask-ok : maskOk (bookMoves b) (bookMask b) ≡ true
   pub head : bookHeadOk b ≡ true
   pub rows : rowsOk b ≡ true
+  pub count : bookCount b ≡ length (bookKept b)
 
 pub book-ok : (b : List ℕ) → bookFault b ≡ 0 → BookOk b
-unfolding bookFault bookHeadOk
+unfolding bookFault bookHeadOk rowsOk
 book-ok b h =
     let parts = first-iff (when (not (bookHeadOk b)) 4) _ .0 h in
     let head-ok = when-iff (bookHeadOk b) 3 .0 (parts .0) in
+    let rows-ok = when-iff (rowsOk b) 4 .0 (parts .1) in
     let tests = simp and-iff at head-ok in
     record {
       sizes = omega (arith, leb-true);
@@ -132,7 +134,8 @@ book-ok b h =
       size = omega (arith, eqb-true);
       mask-ok = search;
       head = head-ok;
-      rows = when-iff (rowsOk b) 4 .0 (parts .1);
+      rows = rows-ok;
+      count = eqb-true _ _ (and-right (every (bookStates b) 0 (λ x. isLost b x || isHeld b x)) _ rows-ok);
     }
 
 -- an accepted make

@@ -8,7 +8,7 @@ use Rattle.statements.specs.Sets.{numbers, consIf, filter}
 use Rattle.statements.specs.Demands.{Rising}
 
 -- the numbers of a list strictly rise from at least x
-abbrev From : ℕ → List ℕ → Type 0
+abbrev pub From : ℕ → List ℕ → Type 0
 From x [] = Unit {0}
 From x (y ∷ ys) = (x ≤ y) × From (suc y) ys
 
@@ -20,7 +20,7 @@ from-consIf : (b : Bool) (x y : ℕ) (ys : List ℕ) → x ≤ y → From (suc y
 from-consIf true x y ys l h = (l, h)
 from-consIf false x y ys l h = from-less x (suc y) ys (omega arith) h
 
-from-filter : (f : ℕ → Bool) (n x : ℕ) → From x (filter f (numbers n x))
+pub from-filter : (f : ℕ → Bool) (n x : ℕ) → From x (filter f (numbers n x))
 unfolding filter numbers
 from-filter f zero x = tt
 from-filter f (suc n) x = from-consIf (f x) x x (filter f (numbers n (suc x))) (omega arith) (from-filter f n (suc x))
@@ -30,7 +30,7 @@ from-at x [] h k l = absurd (omega arith)
 from-at x (y ∷ ys) h zero l = h .0
 from-at x (y ∷ ys) h (suc k) l = let r = from-at (suc y) ys (h .1) k (omega arith) in omega (arith, h .0)
 
-pub from-rises : (x : ℕ) (xs : List ℕ) → From x xs → Rising xs
+from-rises : (x : ℕ) (xs : List ℕ) → From x xs → Rising xs
 from-rises x [] h j k l m = absurd (omega arith)
 from-rises x (y ∷ ys) h zero zero l m = absurd (omega arith)
 from-rises x (y ∷ ys) h zero (suc k) l m = from-at (suc y) ys (h .1) k (omega arith)

@@ -1,19 +1,19 @@
 -- The rounds: a round that cuts nothing changes nothing, and a set has the same kept states before and after a round.
 -- Assumes nothing.
 use mathlib.Core.Path.{_≡_, refl, sym, ap, _∙_, subst}
-use mathlib.Core.Bool.{Bool}
 use mathlib.Core.List.{List}
 use Prim.Native.Nat.{ℕ, zero, suc, _≤_}
 use native.Mathlib.Omega.{arith}
 use lib.ListN.{length, take}
 use lib.Seq.{length-take-le}
-use Rattle.statements.specs.Sets.{numbers, iterate, filter}
+use Rattle.statements.specs.Sets.{numbers, iterate}
 use Rattle.statements.specs.Plants.{Plant}
 use Rattle.statements.specs.Kept.{forcedAll, keptRound, keptWithin}
-use Rattle.sets.proofs.Members.{Sifted, sifted-filter}
+use Rattle.sets.proofs.Members.{Sifted}
 use Rattle.sets.proofs.Iterate.{sifted-as-long, sifted-longer, sifted-few, iterate-still, shrunk-full}
 use Rattle.kept.proofs.Kept.{forcedAll-holds, forcedAll-sifted}
-use Rattle.solve.specs.Rows.{keptFrom, Columns}
+use Rattle.solve.specs.Rows.{keptFrom, Columns, among}
+use Rattle.solve.specs.Rounds.{Struck}
 
 -- a step before the others or after them
 iterate-inside : (n : ℕ) (f : List ℕ → List ℕ) (xs : List ℕ) → iterate n f (f xs) ≡ f (iterate n f xs)
@@ -50,48 +50,45 @@ module _ (p : Plant) (mask : ℕ) (all : List ℕ) (set : Sifted (numbers (p .st
       (λ x m. forcedAll-holds (p .goals) p mask all x m .0) (omega (arith, round-shorter)))
       (omega arith)
 
-module _ (p : Plant) (mask : ℕ) (small : p .states ≤ 1024) (start all next : List ℕ) (kept left : ℕ)
-    (set : Sifted (numbers (p .states) 0) (take kept all))
-    (same : keptFrom p mask (take kept all) ≡ keptFrom p mask start)
-    (in-next : left ≤ length next) (left-is : take left next ≡ forcedAll (p .goals) p mask (take kept all)) where
-  -- the set that a round leaves
-  pub settle-more : Sifted (numbers (p .states) 0) (take left next)
-      × (keptFrom p mask (take left next) ≡ keptFrom p mask start)
-  settle-more = (
-    subst (Sifted (numbers (p .states) 0)) (sym left-is) (round-sifted p mask (take kept all) set small),
-    ap (keptFrom p mask) left-is ∙ round-kept p mask (take kept all) set small ∙ same,
-  )
+-- the rounds so far: a set of states with the kept states of the start
+pub record Settling (p : Plant) (mask : ℕ) (start all : List ℕ) (kept : ℕ) : Type 0 where
+  pub fits : kept ≤ length all
+  pub set : Sifted (numbers (p .states) 0) (take kept all)
+  pub same : keptFrom p mask (take kept all) ≡ keptFrom p mask start
 
-  module _ (in-all : kept ≤ length all) (uncut : kept ≤ left) where
-    -- where a round cuts nothing the set is the kept states
+-- and the next one
+module _ (p : Plant) (mask : ℕ) (small : p .states ≤ 1024) (start all next : List ℕ) (kept left : ℕ)
+    (so-far : Settling p mask start all kept) (struck : Struck p mask (take kept all) next left) where
+  -- the states still kept are a set of states with the kept states of the start
+  pub settle-more : Settling p mask start next left
+  settle-more =
+      record {
+        fits = struck .fits;
+        set = subst (Sifted (numbers (p .states) 0)) (sym (struck .still))
+            (round-sifted p mask (take kept all) (so-far .set) small);
+        same = ap (keptFrom p mask) (struck .still) ∙ round-kept p mask (take kept all) (so-far .set) small
+            ∙ so-far .same;
+      }
+
+  module _ (none-struck : kept ≤ left) where
+    -- where no state was struck out they are the kept states
     settled : keptFrom p mask start ≡ take kept all
     settled =
-        sym same
-        ∙ round-still p mask (take kept all) set small
-        (omega (arith, length-take-le kept all in-all, length-take-le left next in-next, ap length left-is))
+        sym (so-far .same)
+        ∙ round-still p mask (take kept all) (so-far .set) small
+        (omega (arith, length-take-le kept all (so-far .fits), struck .number))
 
-    -- they are as many as the code counts
+    -- they are as many as the number handed on
     pub settled-count : kept ≡ length (keptFrom p mask start)
-    settled-count = sym (ap length settled ∙ length-take-le kept all in-all)
+    settled-count = sym (ap length settled ∙ length-take-le kept all (so-far .fits))
 
     -- and the columns written are theirs
     pub settled-columns : (n : ℕ) (entries : List ℕ) → Columns p mask (take kept all) n entries
         → Columns p mask (keptFrom p mask start) n entries
     settled-columns n entries columns = subst (λ (ys : List ℕ). Columns p mask ys n entries) (sym settled) columns
 
--- the states at which a test holds: a set, and its kept states
-pub begun : (p : Plant) (mask : ℕ) (test : ℕ → Bool) (states : ℕ) (xs : List ℕ) → states ≡ p .states
-    → xs ≡ filter test (numbers states 0)
-    → Sifted (numbers (p .states) 0) xs × (keptFrom p mask xs ≡ keptWithin p mask test)
-unfolding keptFrom keptWithin keptRound
-begun p mask test states xs e is =
-    let start : xs ≡ filter test (numbers (p .states) 0) = is ∙ ap (λ (n : ℕ). filter test (numbers n 0)) e in (
-      subst (Sifted (numbers (p .states) 0)) (sym start) (sifted-filter test (numbers (p .states) 0)),
-      ap (iterate (p .states) (forcedAll (p .goals) p mask)) start,
-    )
-
--- the rounds so far: a set of states with the kept states of the start
-pub record Settling (p : Plant) (mask : ℕ) (start all : List ℕ) (kept : ℕ) : Type 0 where
-  pub fits : kept ≤ length all
-  pub set : Sifted (numbers (p .states) 0) (take kept all)
-  pub same : keptFrom p mask (take kept all) ≡ keptFrom p mask start
+-- a set of states, and its kept states
+pub begun : (p : Plant) (mask : ℕ) (start : List ℕ) → Sifted (numbers (p .states) 0) start
+    → keptFrom p mask start ≡ keptWithin p mask (among start)
+unfolding keptFrom keptWithin keptRound among
+begun p mask start set = ap (iterate (p .states) (forcedAll (p .goals) p mask)) set

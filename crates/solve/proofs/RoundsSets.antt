@@ -17,19 +17,18 @@ use Rattle.statements.specs.Kept.{forced, forcedAll}
 use Rattle.statements.specs.Books.{lostMark}
 use Rattle.sets.proofs.Tests.{same-number, and-right}
 use Rattle.sets.proofs.Members.{Sifted, sifted-same, sifted-sub, filter-holds, filter-in}
-use Rattle.sets.proofs.Members.{length-numbers, filter-length}
 use Rattle.sets.proofs.Numbers.{every-at}
 use Rattle.sets.proofs.First.{first-range}
 use Rattle.sets.proofs.Iterate.{sifted-longer, sifted-few, sifted-below}
 use Rattle.kept.proofs.Kept.{forcedAll-holds, forcedAll-in, forcedAll-sifted}
-use Rattle.arrays.specs.Lists.{fitting, zeroed, flagList, column, stored, stays, stayList}
+use Rattle.arrays.specs.Lists.{fitting, zeroed, column, stored, stays, stayList}
 use Rattle.arrays.proofs.Sieves.{over-done}
 use Rattle.arrays.proofs.Marks.{zeroed-length, zeroed-in, zeroed-out}
 use Rattle.arrays.proofs.Columns.{stored-yes, column-is, column-stays, column-length, column-rest}
-use Rattle.arrays.proofs.Rows.{fitting-yes, flag-fits, stays-yes, stay-fits}
+use Rattle.arrays.proofs.Rows.{fitting-yes, stays-yes, stay-fits}
 use Rattle.solve.specs.Reached.{within, stepOf, reached, Marks}
-use Rattle.solve.specs.Rows.{Columns, flagged}
-use Rattle.solve.specs.Rounds.{Rest}
+use Rattle.solve.specs.Rows.{Columns}
+use Rattle.solve.specs.Rounds.{Rest, Struck}
 use Rattle.solve.proofs.ReachSteps.{Column}
 
 -- an array with zeros at the states of a set marks it
@@ -154,13 +153,13 @@ module _ (p : Plant) (mask : ℕ) (all : List ℕ) (set : Sifted (numbers (p .st
         → (Columns p mask all i old → Columns p mask all (i + 1) new) × Rest (2 * (states * goals)) old new
     store-more states goals es eg new e = rw (e, es, eg, stored-is) (columns-more, column-stored)
 
--- what a cut leaves of the first states of an array
+-- what a cut leaves of the states kept
 pub cut-done : (p : Plant) (mask : ℕ) (all : List ℕ) (kept : ℕ) → kept ≤ length all
     → Sifted (numbers (p .states) 0) (take kept all) → p .states ≤ 1024 → (entries : List ℕ)
     → Columns p mask (take kept all) (p .goals) entries → (states goals : ℕ) → states ≡ p .states → goals ≡ p .goals
     → 2 * (states * goals) ≤ length entries → p .goals ≤ 8 → (new : List ℕ) (left : ℕ)
     → left ≡ length (stayList entries goals kept all) → new ≡ over (stayList entries goals kept all) all
-    → (left ≤ length new) × (take left new ≡ forcedAll (p .goals) p mask (take kept all))
+    → Struck p mask (take kept all) new left
 cut-done p mask all kept fits set small entries columns states goals es eg room few new left el en =
     let space = same-room p states goals entries es eg room in
     let is : stayList entries goals kept all ≡ forcedAll (p .goals) p mask (take kept all) =
@@ -169,20 +168,10 @@ cut-done p mask all kept fits set small entries columns states goals es eg room 
     let few-left = sifted-longer (numbers (p .states) 0) (forcedAll (p .goals) p mask (take kept all)) (take kept all)
     (forcedAll-sifted (p .goals) p mask (numbers (p .states) 0) (take kept all) set) set
     (λ x m. forcedAll-holds (p .goals) p mask (take kept all) x m .0) in
-    over-done (forcedAll (p .goals) p mask (take kept all)) all new left
-    (omega (arith, few-left, length-take-le kept all fits)) (el ∙ ap length is)
-    (en ∙ ap (λ (ys : List ℕ). over ys all) is)
-
--- the flagged states are listed at the front of an array
-pub flags-done : (start : List ℕ) (states : ℕ) (all new : List ℕ) (count : ℕ) → states ≤ length start
-    → states ≤ length all → states ≤ 65536 → count ≡ length (flagList start states all)
-    → new ≡ over (flagList start states all) all
-    → (count ≤ length new) × (take count new ≡ filter (flagged start) (numbers states 0))
-flags-done start states all new count a b c ec en =
-    let is = flag-fits start states all a b c in
-    let few = filter-length (flagged start) (numbers states 0) in
-    over-done (filter (flagged start) (numbers states 0)) all new count (omega (arith, length-numbers states 0))
-    (ec ∙ ap length is) (en ∙ ap (λ (ys : List ℕ). over ys all) is)
+    let number = el ∙ ap length is in
+    let front = over-done (forcedAll (p .goals) p mask (take kept all)) all new left
+    (omega (arith, few-left, length-take-le kept all fits)) number (en ∙ ap (λ (ys : List ℕ). over ys all) is) in
+    record { fits = front .0; still = front .1; number = number }
 
 -- before the first goal there is no column
 pub columns-start : (p : Plant) (mask : ℕ) (all entries : List ℕ) → Columns p mask all 0 entries

@@ -9,7 +9,7 @@ use Rattle.statements.specs.Sets.{pick, joined, iterate, isIn, over}
 use Rattle.statements.specs.Plants.{Plant, plantOf, plantFault}
 use Rattle.statements.specs.Kept.{forcedAll, keptWithin, waitOf, listedMove}
 use Rattle.statements.specs.Books.{lostMark}
-unfoldable pub use Rattle.arrays.specs.Lists.{flagged}
+unfoldable pub use Rattle.arrays.specs.Lists.{among, rising}
 use Rattle.solve.specs.Reached.{reached, reachedBy}
 
 -- the entries hold the reach to each of the first n goals: wait, then move, by state and goal
@@ -34,19 +34,19 @@ rowNumbers p mask kept = joined (p .states) 0 (λ x. joined (p .goals) 0 (entryN
 abbrev pub writtenRows : Plant → ℕ → List ℕ → List ℕ → List ℕ
 writtenRows p mask kept entries = over (rowNumbers p mask kept) entries
 
--- a plant that is accepted, a flag for each state and room for the rows
+-- a plant that is accepted, a start that is a rising list of its states and room for the rows
 unfoldable pub solvable : List ℕ → List ℕ → List ℕ → Bool
 solvable s start entries =
     eqb (plantFault s) 0 &&
-    (leb (plantOf s .states) (length start) &&
+    (rising 0 (plantOf s .states) start &&
     leb (2 * (plantOf s .states * plantOf s .goals)) (length entries))
 
 -- the number kept, and the entries with the rows written; 65,535 and nothing where the solver cannot work
 unfoldable pub solvedCount : List ℕ → ℕ → List ℕ → List ℕ → ℕ
 solvedCount s mask start entries =
-    pick (solvable s start entries) (length (keptWithin (plantOf s) mask (flagged start))) lostMark
+    pick (solvable s start entries) (length (keptWithin (plantOf s) mask (among start))) lostMark
 
 unfoldable pub solvedRows : List ℕ → ℕ → List ℕ → List ℕ → List ℕ
 solvedRows s mask start entries =
-    pick (solvable s start entries) (writtenRows (plantOf s) mask (keptWithin (plantOf s) mask (flagged start)) entries)
+    pick (solvable s start entries) (writtenRows (plantOf s) mask (keptWithin (plantOf s) mask (among start)) entries)
     entries

@@ -1,4 +1,4 @@
-// Rounds: each works out the reach to every goal from the same set, and then cuts the states from which one fails.
+// Rounds: each works out the reach to every goal from the same set, then strikes out the states from which one fails.
 use crate::reach::reach;
 use arrays::cut;
 use arrays::mark;
@@ -10,7 +10,7 @@ ghost use Rattle.statements.specs.Plants.{plantOf};
 ghost use Rattle.sets.proofs.Members.{Sifted};
 ghost use Rattle.solve.specs.Given.{Given};
 ghost use Rattle.solve.specs.Rows.{Columns, keptFrom};
-ghost use Rattle.solve.specs.Rounds.{Rest};
+ghost use Rattle.solve.specs.Rounds.{Rest, Struck};
 
 // One round: the reach to each goal from the same set.
 pub(crate) fn round(
@@ -51,7 +51,44 @@ pub(crate) fn round(
     }
 }
 
-// Rounds until one cuts nothing; returns the number of states kept.
+// One round and its cut: strikes out the states from which some goal cannot be forced. Takes the states kept, at the
+// front of a list, and their number; leaves those still kept there, and hands on their number.
+fn strike(
+    plant: &[u8],
+    mask: u32,
+    table: &[u16],
+    none: u16,
+    states: usize,
+    goals: usize,
+    all: &mut [u16],
+    kept: usize,
+    entries: &mut [u16],
+) -> usize
+    requires given { ⌜ Given (now plant) mask (now table) none ⌝ }
+    requires sizes { ⌜ (states ≡ plantOf (now plant) .states) × (goals ≡ plantOf (now plant) .goals) ⌝ }
+    requires set { ⌜ (kept ≤ length (now all))
+        × Sifted (numbers (plantOf (now plant) .states) 0) (take kept (now all)) ⌝ }
+    requires room { ⌜ 2 * (states * goals) ≤ length (now entries) ⌝ }
+    ensures struck { λ r. ⌜ Struck (plantOf (now (plant .entry))) mask (take kept (now (all .entry)))
+        (now (all .exit)) r ⌝ }
+    ensures columns { λ _. ⌜ Columns (plantOf (now (plant .entry))) mask (take kept (now (all .entry)))
+        (plantOf (now (plant .entry)) .goals) (now (entries .exit)) ⌝ }
+    ensures rest_stays { λ _. ⌜ Rest (2 * (states * goals)) (now (entries .entry)) (now (entries .exit)) ⌝ }
+{
+    round(
+        plant,
+        mask,
+        table,
+        none,
+        states,
+        goals,
+        &all[..kept],
+        entries,
+    );
+    cut(all, kept, goals, entries)
+}
+
+// Strikes states out until none is; returns the number of states kept.
 pub(crate) fn settle(
     plant: &[u8],
     mask: u32,
@@ -76,17 +113,7 @@ pub(crate) fn settle(
 {
     let mut kept = count;
     loop {
-        round(
-            plant,
-            mask,
-            table,
-            none,
-            states,
-            goals,
-            &all[..kept],
-            entries,
-        );
-        let left = cut(all, kept, goals, entries);
+        let left = strike(plant, mask, table, none, states, goals, all, kept, entries);
         if kept <= left {
             return kept;
         }

@@ -1,11 +1,11 @@
--- What the solver gives for flags of states, and whether the book can be written. Assumes nothing.
+-- What the solver gives for a start, and whether the book can be written. Assumes nothing.
 use mathlib.Core.Path.{_≡_, sym, _∙_}
 use mathlib.Core.Logic.{inl, inr}
 use mathlib.Core.Bool.{true, false}
 use mathlib.Core.List.{List, _++_}
 use Prim.Native.Nat.{ℕ, _+_, _*_, _≤_, _<_}
 use native.Mathlib.Omega.{arith}
-use lib.Dec.{eqb, leb}
+use lib.Dec.{eqb}
 use lib.ListN.{length, take, drop}
 use borrow.Author.Tests.{eq-eqb, eqb-true, le-leb, leb-true}
 use Rattle.statements.specs.Sets.{over}
@@ -18,7 +18,7 @@ use Rattle.sets.proofs.Iterate.{sifted-length}
 use Rattle.sets.proofs.Over.{over-back}
 use Rattle.kept.proofs.Kept.{kept-sifted}
 use Rattle.decoding.proofs.Faults.{states-few, entries-few}
-use Rattle.solve.specs.Rows.{rowNumbers, solvable, flagged, solvedCount, solvedRows}
+use Rattle.solve.specs.Rows.{rowNumbers, solvable, among, rising, solvedCount, solvedRows}
 use Rattle.solve.proofs.RoundsSolved.{not-solved, solved}
 use Rattle.writing.specs.Written.{writable, writtenLong, writtenBook}
 use Rattle.writing.proofs.Written.{rows-count, book-written}
@@ -27,7 +27,7 @@ use Rattle.writing.proofs.Written.{rows-count, book-written}
 module _ (s : List ℕ) (mask : ℕ) (start entries : List ℕ) where
   -- the states kept
   abbrev Kept : List ℕ
-  Kept = keptWithin (plantOf s) mask (flagged start)
+  Kept = keptWithin (plantOf s) mask (among start)
 
   -- a number other than the mark: it worked
   pub has-solved : {r : ℕ} → r ≡ solvedCount s mask start entries → (r ≡ 65535 → ⊥) → solvable s start entries ≡ true
@@ -43,11 +43,10 @@ module _ (s : List ℕ) (mask : ℕ) (start entries : List ℕ) where
     unfolding solvable
     solved-fine = eqb-true _ _ (and-left (eqb (plantFault s) 0) _ can)
 
-    -- each state has a flag
-    pub solved-flags : plantOf s .states ≤ length start
+    -- the start is a rising list of states
+    pub solved-start : rising 0 (plantOf s .states) start ≡ true
     unfolding solvable
-    solved-flags =
-        leb-true _ _ (and-left (leb (plantOf s .states) (length start)) _ (and-right (eqb (plantFault s) 0) _ can))
+    solved-start = and-left (rising 0 (plantOf s .states) start) _ (and-right (eqb (plantFault s) 0) _ can)
 
     -- the number is how many states are kept
     pub solved-count : {r : ℕ} → r ≡ solvedCount s mask start entries → length Kept ≡ r
@@ -60,7 +59,7 @@ module _ (s : List ℕ) (mask : ℕ) (start entries : List ℕ) where
         omega (
           arith,
           solved-count e,
-          sifted-length _ Kept (kept-sifted p mask (flagged start)),
+          sifted-length _ Kept (kept-sifted p mask (among start)),
           length-numbers (p .states) 0,
           states-few s solved-fine,
         )
@@ -73,17 +72,17 @@ module _ (s : List ℕ) (mask : ℕ) (start entries : List ℕ) where
         (over-back (rowNumbers (plantOf s) mask Kept) entries n (e ∙ sym (rows-count (plantOf s) mask Kept)))
 
 module _ (s start o : List ℕ) where
-  -- a book can be written for an accepted plant, with a flag for each state and room for it
-  pub can-write : plantFault s ≡ 0 → plantOf s .states ≤ length start
+  -- a book can be written for an accepted plant, from a rising list of its states, with room for it
+  pub can-write : plantFault s ≡ 0 → rising 0 (plantOf s .states) start ≡ true
       → bookLong (plantOf s .states) (plantOf s .goals) ≤ length o → writable s start o ≡ true
   unfolding writable
-  can-write fine flags room = and-true (eq-eqb _ _ fine) (and-true (le-leb _ _ flags) (le-leb _ _ room))
+  can-write fine rise room = and-true (eq-eqb _ _ fine) (and-true rise (le-leb _ _ room))
 
   -- one that can be written has room
   pub room-of : writable s start o ≡ true → bookLong (plantOf s .states) (plantOf s .goals) ≤ length o
   unfolding writable
   room-of t =
-      leb-true _ _ (and-right (leb (plantOf s .states) (length start)) _ (and-right (eqb (plantFault s) 0) _ t))
+      leb-true _ _ (and-right (rising 0 (plantOf s .states) start) _ (and-right (eqb (plantFault s) 0) _ t))
 
   -- so none can without room
   pub short-unwritable : length o < bookLong (plantOf s .states) (plantOf s .goals) → writable s start o ≡ false
@@ -105,7 +104,7 @@ module _ (s start o : List ℕ) where
             let fits : 2 * (plantOf s .states * plantOf s .goals) ≤ length entries =
             omega (arith, entries-few s (eqb-true _ _ first)) in
             let can : solvable s start entries ≡ true =
-            and-true first (and-true (and-left (leb (plantOf s .states) (length start)) _ rest) (le-leb _ _ fits)) in
+            and-true first (and-true (and-left (rising 0 (plantOf s .states) start) _ rest) (le-leb _ _ fits)) in
             absurd (omega (arith, solved-most s mask start entries can e))
         | inr t ↦ t
       ]
@@ -129,7 +128,7 @@ module _ (s : List ℕ) (mask : ℕ) (start o : List ℕ) where
   -- it can: the book's length, and the buffer with the book written
   pub written : writable s start o ≡ true
       → (writtenLong s start o ≡ bookLong (plantOf s .states) (plantOf s .goals))
-      × (writtenBook s mask start o ≡ over (bookWithin (plantOf s) mask (flagged start)) o)
+      × (writtenBook s mask start o ≡ over (bookWithin (plantOf s) mask (among start)) o)
   unfolding writtenLong writtenBook
   written e = (rw e, rw e)
 
@@ -144,9 +143,9 @@ module _ (s : List ℕ) (mask : ℕ) (start o : List ℕ) where
   unfolding bookLong bookWithin
   book-done entries can room n e {rows = rows} er es head last =
       let p = plantOf s in
-      let kept = keptWithin p mask (flagged start) in
+      let kept = keptWithin p mask (among start) in
       let w = written (can-write s start o (solved-fine s mask start entries can)
-      (solved-flags s mask start entries can) room) in
+      (solved-start s mask start entries can) room) in
       let long : 16 + 2 * n ≡ 16 + 4 * (p .states * p .goals) = omega arith in (
         long ∙ sym (w .0),
         book-written p mask kept (take n rows) o (head kept (solved-count s mask start entries can er)) last

@@ -7,13 +7,13 @@ use lib.ListN.{length}
 use Rattle.statements.specs.Sets.{pick, over}
 use Rattle.statements.specs.Plants.{plantOf, plantFault}
 use Rattle.statements.specs.Books.{bytesOf, bookLong, bookStates, bookWithin, droppedStates}
-use Rattle.solve.specs.Rows.{flagged}
+use Rattle.solve.specs.Rows.{among, rising}
 
--- a plant that is accepted, a flag for each state and room for the book
+-- a plant that is accepted, a start that is a rising list of its states and room for the book
 unfoldable pub writable : List ℕ → List ℕ → List ℕ → Bool
 writable s start o =
     eqb (plantFault s) 0
-    && (leb (plantOf s .states) (length start)
+    && (rising 0 (plantOf s .states) start
     && leb (bookLong (plantOf s .states) (plantOf s .goals)) (length o))
 
 -- the book's length, and the buffer with the book written; 0 and nothing where it cannot be written
@@ -21,7 +21,7 @@ unfoldable pub writtenLong : List ℕ → List ℕ → List ℕ → ℕ
 writtenLong s start o = pick (writable s start o) (bookLong (plantOf s .states) (plantOf s .goals)) 0
 
 unfoldable pub writtenBook : List ℕ → ℕ → List ℕ → List ℕ → List ℕ
-writtenBook s mask start o = pick (writable s start o) (over (bookWithin (plantOf s) mask (flagged start)) o) o
+writtenBook s mask start o = pick (writable s start o) (over (bookWithin (plantOf s) mask (among start)) o) o
 
 -- room in a drop buffer for every state of a book
 unfoldable pub listable : List ℕ → List ℕ → Bool

@@ -53,9 +53,10 @@ fn head(plant: &[u8], mask: u32, kept: u16, out: &mut [u8])
     put_all(&numbers, 0, out);
 }
 
-// Writes the book for the moves in service when strategies may not leave the states with flag 1; returns its length.
-// Where the plant is refused or a slice is too short it returns 0 and writes nothing.
-pub fn book(plant: &[u8], mask: u32, start: &[u8], out: &mut [u8]) -> u32
+// Writes the book for the moves in service when strategies may not leave the states of a start, a rising list; returns
+// its length. Where the plant is refused, the start is no such list or the buffer is too short it returns 0 and writes
+// nothing.
+pub fn book(plant: &[u8], mask: u32, start: &[u16], out: &mut [u8]) -> u32
     ensures long { λ r. ⌜ r ≡ writtenLong (now (plant .entry)) (now (start .entry)) (now (out .entry)) ⌝ }
     ensures bytes { λ _. ⌜ now (out .exit) ≡
         writtenBook (now (plant .entry)) mask (now (start .entry)) (now (out .entry)) ⌝ }

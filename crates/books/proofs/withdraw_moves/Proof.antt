@@ -1,18 +1,20 @@
--- `books::withdraw_moves` meets its contract: a refused call changes nothing; an accepted one writes the book of the
--- flags of the allowed states that the old book keeps, for the old mask less the moves withdrawn, and lists the states
--- that this book loses. Assumes nothing.
+-- `books::withdraw_moves` meets its contract: a refused call changes nothing; an accepted one writes the book within
+-- the allowed states that the old book keeps, for the old mask less the moves withdrawn, and lists the states that this
+-- book loses. Assumes nothing.
 use denote.Ref.{now}
 use mathlib.Core.Path.{_≡_, sym, _∙_}
 use Prim.Native.Nat.{_≤_}
 use native.Mathlib.Omega.{arith}
-use lib.ListN.{length}
+use lib.ListN.{length, take}
 use lib.Seq.{length-take-le}
 use lib.Bits.{and-le-l}
-use Rattle.statements.specs.Plants.{plantOf}
+use Rattle.statements.specs.Sets.{filter}
+use Rattle.statements.specs.Plants.{plantOf, allowed}
+use Rattle.statements.specs.Books.{bookKept}
 use Rattle.statements.specs.Calls.{withdrawFault}
 use Rattle.decoding.proofs.Faults.{WithdrawOk, withdraw-ok, states-few}
 use Rattle.writing.proofs.Solved.{written-fits}
-use Rattle.books.proofs.Made.{withdraw-refused, withdraw-done}
+use Rattle.books.proofs.Made.{kept-few, struck, withdraw-refused, withdraw-done}
 use Rattle.books.proofs.Demands.{demands}
 use borrow.Author.Needs.{needs}
 use Rattle.books.proofs.withdraw_moves.Statement.{statement}
@@ -52,7 +54,36 @@ slice-aggregate-kept : tie.Need-slice-aggregate-kept
 slice-aggregate-kept c = search needs
 
 kept-requires : tie.Need-kept-requires
-kept-requires c κs = few (c .before)
+kept-requires c κs =
+    let o = ok (c .before) in
+    (o .book, omega (arith, few (c .before), o .states))
+
+slice-aggregate-allowed : tie.Need-slice-aggregate-allowed
+slice-aggregate-allowed c = search needs
+
+-- there is a place for each state that the old book keeps
+room : (c : tie.After-kept) → c .kept .result ≤ length (c .kept .last .1 .0)
+room c =
+    let e = c .before .before in
+    let most = kept-few (now (e .before .before .before .before .before .before .args .book)) in
+    omega (arith, c .kept .ensures .0, most, few e, ok e .states, c .kept .kept .1 .0)
+
+allowed-requires : tie.Need-allowed-requires
+allowed-requires c κs = room (c .before .before)
+
+-- the allowed ones of them are left, at the front
+started : (c : tie.After-allowed)
+    → let a = c .before .before .before .before .before .before .before .before .before .before .before .args in
+    let list = c .allowed .last .1 .0 in
+    (c .allowed .result ≤ length list)
+    × (take (c .allowed .result) list ≡ filter (allowed (plantOf (now (a .plant)))) (bookKept (now (a .book))))
+started c =
+    let t = c .before .before .before in
+    struck _ _ (c .allowed .last .1 .0) _ _ (t .kept .ensures .1) (t .kept .ensures .0) (room t)
+    (c .allowed .ensures .0) (c .allowed .ensures .1)
+
+array-share-prefix-list : tie.Need-array-share-prefix-list
+array-share-prefix-list c = started (c .before .before) .0
 
 mask-requires : tie.Need-mask-requires
 mask-requires c κs = search needs
@@ -61,7 +92,7 @@ sub-book : tie.Need-sub-book
 sub-book c = and-le-l _ _
 
 slice-aggregate-book : tie.Need-slice-aggregate-book
-slice-aggregate-book c = search needs
+slice-aggregate-book c = sym (length-take-le _ _ (started (c .before .before .before) .0))
 
 book-requires : tie.Need-book-requires
 book-requires c κs = search needs
@@ -97,11 +128,11 @@ returns-2 c =
     let k = d .before .before .before .before .before in
     let m = k .before .before .before in
     let t = m .before .before in
-    let e = t .before .before in
+    let e = t .before .before .before .before .before in
     let a = e .before .before .before .before .before .before .args in (
       withdraw-done (now (a .plant)) (now (a .book)) (a .mask) (now (a .out)) (now (a .drops)) _ _ _ _ (accepted e)
-          (omega (arith, t .kept .ensures .1)) (t .kept .ensures .0) (m .mask .ensures) (k .book .ensures .0)
-          (k .book .ensures .1) (d .dropped .ensures .0) (d .dropped .ensures .1),
+          (started t .1) (m .mask .ensures) (k .book .ensures .0) (k .book .ensures .1) (d .dropped .ensures .0)
+          (d .dropped .ensures .1),
       demands,
     )
 
@@ -113,8 +144,11 @@ withdraw-moves-spec =
     returns
     slice-aggregate-kept
     kept-requires
+    slice-aggregate-allowed
+    allowed-requires
     mask-requires
     sub-book
+    array-share-prefix-list
     slice-aggregate-book
     book-requires
     cast-dropped

@@ -1,5 +1,5 @@
 -- `writing::book` meets its contract: without room, or where the solver returns the mark, nothing is written; otherwise
--- it gives the number kept and the rows of the states kept within the flags, and the header with that number and then
+-- it gives the number kept and the rows of the states kept within the start, and the header with that number and then
 -- the rows are the book. Assumes nothing.
 use denote.Ref.{now}
 use mathlib.Core.Path.{_≡_, sym, ap, ap₂}

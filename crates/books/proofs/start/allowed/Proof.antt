@@ -1,65 +1,73 @@
--- `books::start::allowed` meets its contract. The loop's invariant: the flags of the states passed say which are
--- allowed. Assumes nothing.
-use denote.Ref.{now}
+-- `books::start::allowed` meets its contract: after k turns the front holds those of the first k states that are
+-- allowed, and the number kept is exact. Assumes nothing.
+use mathlib.Core.Path.{sym, _∙_}
+use mathlib.Core.Logic.{⊎-elim}
 use Prim.Native.Nat.{_-_}
 use native.Mathlib.Omega.{arith}
 use borrow.Author.Needs.{needs}
 use Rattle.statements.specs.Plants.{plantOf, allowed}
-use Rattle.books.proofs.Started.{FlagsSoFar, flags-start, flags-more}
+use Rattle.arrays.proofs.Sieves.{Sieved, sieve-start, sieve-yes, sieve-no, sieve-end}
 use Rattle.books.proofs.start.allowed.Statement.{statement}
 use Rattle.books.proofs.start.allowed.Tie as tie
 
 abbrev Inv-loop : tie.InvT-loop
-Inv-loop plant start₀ states x₀ start x =
-    FlagsSoFar (allowed (plantOf plant)) states start₀ start x
+Inv-loop plant list₀ count kept₀ k₀ list kept k = Sieved (allowed (plantOf plant)) count list₀ list kept k
 
 abbrev μ-loop : tie.MeasureT-loop
-μ-loop plant start₀ states x₀ start x = states - x
-
-number-requires : tie.Need-number-requires Inv-loop μ-loop
-number-requires c κs = search needs
-
-cast-states : tie.Need-cast-states Inv-loop μ-loop
-cast-states c = omega arith
+μ-loop plant list₀ count kept₀ k₀ list kept k = count - k
 
 loop-holds : tie.Need-loop-holds Inv-loop μ-loop
-unfolding plantOf
-loop-holds c =
-    let s = c .before .before .before in
-    flags-start (allowed (plantOf (now (s .args .plant)))) _ (now (s .args .start)) (omega arith)
-    (omega (arith, s .pre, c .number .ensures))
+loop-holds c = sieve-start _ _ _ (c .before .before .pre)
+
+mul-state : tie.Need-mul-state Inv-loop μ-loop
+mul-state c = omega arith
+
+slice-read-state : tie.Need-slice-read-state Inv-loop μ-loop
+slice-read-state c = omega arith
 
 cast-is-allowed : tie.Need-cast-is-allowed Inv-loop μ-loop
-cast-is-allowed c = omega arith
+cast-is-allowed c = omega (arith, c .slice-known2 .given (c .before .before .loop .k))
 
 is-allowed-requires : tie.Need-is-allowed-requires Inv-loop μ-loop
 is-allowed-requires c κs = search needs
 
-cast-start : tie.Need-cast-start Inv-loop μ-loop
-cast-start c = tt
+sub-list : tie.Need-sub-list Inv-loop μ-loop
+sub-list c = omega arith
 
-slice-write-start : tie.Need-slice-write-start Inv-loop μ-loop
-slice-write-start c = omega arith
+sub-list-2 : tie.Need-sub-list-2 Inv-loop μ-loop
+sub-list-2 c = omega arith
 
-add-x : tie.Need-add-x Inv-loop μ-loop
-add-x c = omega arith
+mul-list : tie.Need-mul-list Inv-loop μ-loop
+mul-list c = omega arith
+
+slice-write-list : tie.Need-slice-write-list Inv-loop μ-loop
+slice-write-list c = omega arith
+
+sub-kept : tie.Need-sub-kept Inv-loop μ-loop
+sub-kept c = omega arith
+
+add-k : tie.Need-add-k Inv-loop μ-loop
+add-k c = omega arith
 
 loop-less : tie.Need-loop-less Inv-loop μ-loop
 loop-less c = omega arith
 
 loop-again : tie.Need-loop-again Inv-loop μ-loop
 loop-again c =
-    flags-more (c .before .before .loop .inv) (c .before .loop-test .taken) (c .is-allowed .result)
-    (c .is-allowed .ensures)
+    let t = c .before .before .before in
+    let inv = t .before .loop .inv in
+    let more = t .loop-test .taken in
+    let may = c .before .is-allowed .ensures in
+    ⊎-elim
+    (λ w. rw (w .1, w .2) (sieve-yes inv more (sym may ∙ w .0 .taken)))
+    (λ w. rw (w .1, w .2) (sieve-no inv more (sym may ∙ w .0 .left)))
+    (c .if1 .came)
 
 same-length : tie.Need-same-length Inv-loop μ-loop
 same-length c = c .before .loop .inv .size
 
 returns : tie.Need-returns Inv-loop μ-loop
-unfolding plantOf
-returns c =
-    let r = c .before .loop .inv in
-    (λ x h. r .passed x (omega (arith, h, c .loop-test .left, c .before .before .number .ensures)), r .size)
+returns c = sieve-end (c .before .loop .inv) (omega (arith, c .loop-test .left))
 
 pub allowed-spec : {M : Type 1} → statement M
 allowed-spec =
@@ -67,14 +75,17 @@ allowed-spec =
     (tie.spec
     Inv-loop
     μ-loop
-    number-requires
-    cast-states
     loop-holds
+    mul-state
+    slice-read-state
     cast-is-allowed
     is-allowed-requires
-    cast-start
-    slice-write-start
-    add-x
+    sub-list
+    sub-list-2
+    mul-list
+    slice-write-list
+    sub-kept
+    add-k
     loop-less
     loop-again
     same-length

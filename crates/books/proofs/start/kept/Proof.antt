@@ -1,75 +1,100 @@
--- `books::start::kept` meets its contract. The loop's invariant: the flags of the states passed say which are allowed
--- and kept in the book. Assumes nothing.
-use denote.Ref.{now}
-use mathlib.Core.Path.{ap₂}
-use mathlib.Core.Bool.{Bool, _&&_, not}
-use Prim.Native.Nat.{_-_}
+-- `books::start::kept` meets its contract: from the last state down, the states passed that the book keeps stand at
+-- their places, and as many places are left as the book keeps earlier states. Assumes nothing.
+use mathlib.Core.Path.{_≡_, sym, ap, _∙_}
+use mathlib.Core.Bool.{not}
+use Prim.Native.Nat.{_-_, _≤_, _<_}
 use native.Mathlib.Omega.{arith}
 use borrow.Author.Needs.{needs}
-use Rattle.statements.specs.Plants.{plantOf}
-use Rattle.statements.specs.Books.{keptBefore}
-use Rattle.books.proofs.Started.{FlagsSoFar, flags-start, flags-more}
+use lib.ListN.{length}
+use denote.Ref.{now}
+use Rattle.statements.specs.Books.{bookStates, bookCount, isLost, bookKept}
+use Rattle.decoding.proofs.Faults.{book-ok}
+use Rattle.books.proofs.Started.{Filled, fill-start, fill-place, fill-yes, fill-no, fill-end}
 use Rattle.books.proofs.start.kept.Statement.{statement}
 use Rattle.books.proofs.start.kept.Tie as tie
 
 abbrev Inv-loop : tie.InvT-loop
-Inv-loop plant book start₀ states x₀ start x =
-    FlagsSoFar (keptBefore (plantOf plant) book) states start₀ start x
+Inv-loop book list₀ count at₀ x₀ list at x = Filled (λ y. not (isLost book y)) (bookStates book) list₀ list x at
 
 abbrev μ-loop : tie.MeasureT-loop
-μ-loop plant book start₀ states x₀ start x = states - x
+μ-loop book list₀ count at₀ x₀ list at x = x
 
 number-requires : tie.Need-number-requires Inv-loop μ-loop
 number-requires c κs = search needs
 
-cast-states : tie.Need-cast-states Inv-loop μ-loop
-cast-states c = omega arith
+cast-count : tie.Need-cast-count Inv-loop μ-loop
+cast-count c = omega arith
+
+number-requires-2 : tie.Need-number-requires-2 Inv-loop μ-loop
+number-requires-2 c κs = search needs
 
 loop-holds : tie.Need-loop-holds Inv-loop μ-loop
-unfolding plantOf
+unfolding bookStates bookCount bookKept
 loop-holds c =
     let s = c .before .before .before .before in
-    flags-start (keptBefore (plantOf (now (s .args .plant))) (now (s .args .book))) _ (now (s .args .start))
-    (omega arith) (omega (arith, s .pre, c .number .ensures))
+    let ok = book-ok (now (s .args .book)) (s .pre .0) in
+    rw (c .number2 .ensures)
+    (fill-start _ _ _ _ (ok .sizes .states-most) (s .pre .1) (c .before .number .ensures ∙ ok .count))
 
-cast-is-allowed : tie.Need-cast-is-allowed Inv-loop μ-loop
-cast-is-allowed c = omega arith
-
-is-allowed-requires : tie.Need-is-allowed-requires Inv-loop μ-loop
-is-allowed-requires c κs = search needs
+sub-x : tie.Need-sub-x Inv-loop μ-loop
+sub-x c = omega arith
 
 cast-is-lost : tie.Need-cast-is-lost Inv-loop μ-loop
-cast-is-lost c = omega arith
+cast-is-lost c = omega (arith, c .before .loop .inv)
 
 is-lost-requires : tie.Need-is-lost-requires Inv-loop μ-loop
 is-lost-requires c κs = search needs
 
-cast-start : tie.Need-cast-start Inv-loop μ-loop
-cast-start c = tt
+-- the book keeps the state: there is a place for it
+place : (c : tie.Then1 Inv-loop μ-loop)
+    → let l = c .before .before .before .loop in
+    let list = c .before .before .before .before .before .before .before .before .args .list .now in
+    (0 < l .at) × (l .at ≤ length list)
+place c =
+    let l = c .before .before .before .loop in
+    fill-place _ _ _ _ (l .x) (l .at) (l .x - 1) (l .inv) (omega arith)
+    (ap not (sym (c .before .is-lost .ensures)) ∙ c .if1 .taken)
 
-slice-write-start : tie.Need-slice-write-start Inv-loop μ-loop
-slice-write-start c = omega arith
+sub-at : tie.Need-sub-at Inv-loop μ-loop
+sub-at c = place c .0
 
-add-x : tie.Need-add-x Inv-loop μ-loop
-add-x c = omega arith
+mul-list : tie.Need-mul-list Inv-loop μ-loop
+mul-list c = omega (arith, place c)
+
+slice-write-list : tie.Need-slice-write-list Inv-loop μ-loop
+slice-write-list c = omega (arith, place c)
 
 loop-less : tie.Need-loop-less Inv-loop μ-loop
 loop-less c = omega arith
 
 loop-again : tie.Need-loop-again Inv-loop μ-loop
-unfolding keptBefore
 loop-again c =
-    flags-more (c .before .before .before .loop .inv) (c .before .before .loop-test .taken) _
-    (ap₂ (λ (t u : Bool). t && not u) (c .before .is-allowed .ensures) (c .is-lost .ensures))
+    let l = c .before .before .before .loop in
+    fill-yes _ _ _ _ (l .x) (l .at) (l .x - 1) (l .inv) (omega arith)
+    (ap not (sym (c .before .is-lost .ensures)) ∙ c .if1 .taken)
+
+loop-less-2 : tie.Need-loop-less-2 Inv-loop μ-loop
+loop-less-2 c = omega arith
+
+loop-again-2 : tie.Need-loop-again-2 Inv-loop μ-loop
+loop-again-2 c =
+    let l = c .before .before .before .loop in
+    fill-no _ _ _ _ (l .x) (l .at) (l .x - 1) (l .inv) (omega arith)
+    (ap not (sym (c .before .is-lost .ensures)) ∙ c .if1 .left)
 
 same-length : tie.Need-same-length Inv-loop μ-loop
 same-length c = c .before .loop .inv .size
 
 returns : tie.Need-returns Inv-loop μ-loop
-unfolding plantOf
+unfolding bookCount bookKept
 returns c =
-    let r = c .before .loop .inv in
-    (λ x h. r .passed x (omega (arith, h, c .loop-test .left, c .before .before .number .ensures)), r .size)
+    let l = c .before .loop in
+    let number = c .before .before .before in
+    let s = number .before .before .before in
+    let end : l .x ≡ 0 = omega (arith, c .loop-test .left) in (
+      number .number .ensures ∙ book-ok (now (s .args .book)) (s .pre .0) .count,
+      fill-end _ _ _ _ _ (rw end at (l .inv)),
+    )
 
 pub kept-spec : {M : Type 1} → statement M
 kept-spec =
@@ -78,16 +103,18 @@ kept-spec =
     Inv-loop
     μ-loop
     number-requires
-    cast-states
+    cast-count
+    number-requires-2
     loop-holds
-    cast-is-allowed
-    is-allowed-requires
+    sub-x
     cast-is-lost
     is-lost-requires
-    cast-start
-    slice-write-start
-    add-x
+    sub-at
+    mul-list
+    slice-write-list
     loop-less
     loop-again
+    loop-less-2
+    loop-again-2
     same-length
     returns)

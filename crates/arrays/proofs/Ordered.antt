@@ -1,0 +1,138 @@
+-- A list that strictly rises below a limit is a filter of the numbers below it, and each such filter rises. Assumes
+-- nothing.
+use mathlib.Core.Path.{_≡_, refl, sym, ap, _∙_, subst}
+use mathlib.Core.Logic.{_⊎_, ⊎-elim}
+use mathlib.Core.Bool.{Bool, true, false, _&&_}
+use mathlib.Core.List.{List, [], _∷_}
+use Prim.Native.Nat.{ℕ, zero, suc, _+_, _≤_, _<_}
+use native.Mathlib.Numerals.{add-one}
+use native.Mathlib.Omega.{arith}
+use lib.Dec.{leb, ltb}
+use lib.ListN.{length, getD, drop, drop-of-length-le}
+use lib.Seq.{drop-cons}
+use borrow.Author.Tests.{le-leb, lt-leb, leb-true, lt-ltb, le-ltb, ltb-true, ne-eqb}
+use Rattle.statements.specs.Sets.{numbers, isIn, consIf, filter}
+use Rattle.sets.proofs.Tests.{decided, same-number, and-true, and-left, and-right, and-none}
+use Rattle.sets.proofs.Members.{Sifted, filter-same, filter-holds, numbers-holds, isIn-here, isIn-there, isIn-cases}
+use Rattle.sets.proofs.Members.{isIn-none}
+use Rattle.sets.proofs.Rising.{From, from-filter}
+use Rattle.arrays.specs.Lists.{rising}
+
+-- numbers that strictly rise and are below a limit pass the test
+rising-from : (x limit : ℕ) (xs : List ℕ) → From x xs → ((z : ℕ) → isIn z xs ≡ true → z < limit)
+    → rising x limit xs ≡ true
+unfolding rising
+rising-from x limit [] h b = refl
+rising-from x limit (y ∷ ys) h b =
+    and-true (le-leb x y (h .0))
+    (and-true (lt-ltb y limit (b y (isIn-here y ys)))
+    (rising-from (suc y) limit ys (h .1) (λ z m. b z (isIn-there z y ys m))))
+
+-- so does a filter of the numbers below it
+pub filter-rising : (f : ℕ → Bool) (n : ℕ) → rising 0 n (filter f (numbers n 0)) ≡ true
+filter-rising f n =
+    rising-from 0 n (filter f (numbers n 0)) (from-filter f n 0)
+    (λ z m. omega (arith, numbers-holds n 0 z (filter-holds f (numbers n 0) z m .0)))
+
+-- the empty list does
+rising-nil : (x limit : ℕ) → rising x limit [] ≡ true
+unfolding rising
+rising-nil x limit = refl
+
+module _ (x limit y : ℕ) (ys : List ℕ) (h : rising x limit (y ∷ ys) ≡ true) where
+  -- the first of them, and the others
+  rising-head : (x ≤ y) × (y < limit)
+  unfolding rising
+  rising-head =
+      let rest = and-right (leb x y) _ h in
+      (leb-true x y (and-left (leb x y) _ h), ltb-true y limit (and-left (ltb y limit) _ rest))
+
+  rising-tail : rising (suc y) limit ys ≡ true
+  unfolding rising
+  rising-tail = and-right (ltb y limit) _ (and-right (leb x y) _ h)
+
+  -- all are larger where the first is
+  rising-past : x < y → rising (suc x) limit (y ∷ ys) ≡ true
+  unfolding rising
+  rising-past l = and-true (le-leb (suc x) y l) (and-right (leb x y) _ h)
+
+-- the members of a list that rises from a number on are no smaller
+rising-least : (x limit : ℕ) (xs : List ℕ) → rising x limit xs ≡ true → (z : ℕ) → isIn z xs ≡ true → x ≤ z
+unfolding rising
+rising-least x limit [] h z m = absurd (isIn-none z m)
+rising-least x limit (y ∷ ys) h z m =
+    let first = rising-head x limit y ys h in
+    let rest = rising-tail x limit y ys h in
+    ⊎-elim (λ e. omega arith) (λ n. let l = rising-least (suc y) limit ys rest z n in omega arith) (isIn-cases z y ys m)
+
+-- a number that is not the first of a list is looked for in the rest
+later : (z x : ℕ) (ys : List ℕ) → x < z → isIn z (x ∷ ys) ≡ isIn z ys
+unfolding isIn
+later z x ys l = rw (ne-eqb z x (λ e. omega arith))
+
+-- a list of larger numbers with one before it
+sifted-first : (n x : ℕ) (ys : List ℕ) → Sifted (numbers n (suc x)) ys → Sifted (numbers (suc n) x) (x ∷ ys)
+unfolding numbers filter
+sifted-first n x ys rest =
+    let same = filter-same (λ z. isIn z (x ∷ ys)) (λ z. isIn z ys) (numbers n (suc x))
+    (λ z m. later z x ys (omega (arith, numbers-holds n (suc x) z m))) in
+    ap (λ (zs : List ℕ). x ∷ zs) (rest ∙ sym same)
+    ∙ ap (λ (b : Bool). consIf b x (filter (λ z. isIn z (x ∷ ys)) (numbers n (suc x)))) (sym (isIn-here x ys))
+
+outside : (x limit : ℕ) (xs : List ℕ) → rising (suc x) limit xs ≡ true → isIn x xs ≡ false
+outside x limit xs h =
+    ⊎-elim (λ m. absurd (let l = rising-least (suc x) limit xs h x m in omega arith)) (λ m. m) (decided (isIn x xs))
+
+-- so a list that rises below a limit is a filter of the numbers below it
+rising-run-sifted : (n x limit : ℕ) (xs : List ℕ) → limit ≡ x + n → rising x limit xs ≡ true → Sifted (numbers n x) xs
+unfolding numbers filter
+rising-run-sifted zero x limit [] e h = refl
+rising-run-sifted zero x limit (y ∷ ys) e h =
+    let bound = rising-head x limit y ys h in
+    absurd (omega arith)
+rising-run-sifted (suc n) x limit [] e h =
+    let more = rising-nil (suc x) limit in
+    rw (outside x limit [] more) (rising-run-sifted n (suc x) limit [] (omega arith) more)
+rising-run-sifted (suc n) x limit (y ∷ ys) e h =
+    ⊎-elim
+    (λ q.
+    let rest = rising-run-sifted n (suc x) limit ys (omega arith) (rw q at (rising-tail x limit y ys h)) in
+    subst (λ (v : ℕ). Sifted (numbers (suc n) x) (v ∷ ys)) (sym q) (sifted-first n x ys rest))
+    (λ d.
+    let bound = rising-head x limit y ys h in
+    let more = rising-past x limit y ys h (omega arith) in
+    rw (outside x limit (y ∷ ys) more) (rising-run-sifted n (suc x) limit (y ∷ ys) (omega arith) more))
+    (same-number y x)
+
+pub rising-sifted : (n : ℕ) (xs : List ℕ) → rising 0 n xs ≡ true → Sifted (numbers n 0) xs
+rising-sifted n xs h = rising-run-sifted n 0 n xs (omega arith) h
+
+-- a loop over the list: the numbers before place k rise below `least`, so that the list rises where the rest does
+module _ (limit : ℕ) (list : List ℕ) (least k : ℕ) (so-far : rising 0 limit list ≡ rising least limit (drop k list))
+  where
+    pub rising-end : length list ≤ k → true ≡ rising 0 limit list
+    unfolding rising
+    rising-end h = sym (so-far ∙ ap (rising least limit) (drop-of-length-le list h))
+
+    module _ (h : k < length list) where
+      -- the next number counts
+      rising-next : rising 0 limit list
+          ≡ leb least (getD list k 0)
+          && (ltb (getD list k 0) limit && rising (suc (getD list k 0)) limit (drop (suc k) list))
+      unfolding rising
+      rising-next = so-far ∙ ap (rising least limit) (drop-cons list k 0 h)
+
+      pub rising-no : (getD list k 0 < least) ⊎ (limit ≤ getD list k 0) → false ≡ rising 0 limit list
+      rising-no bad =
+          sym
+          (rising-next
+          ∙ ⊎-elim
+          (λ l. rw (lt-leb least (getD list k 0) l) refl)
+          (λ l. rw (le-ltb (getD list k 0) limit l) (and-none (leb least (getD list k 0)) false refl))
+          bad)
+
+      pub rising-yes : least ≤ getD list k 0 → getD list k 0 < limit
+          → rising 0 limit list ≡ rising (getD list k 0 + 1) limit (drop (k + 1) list)
+      rising-yes a b =
+          rising-next
+          ∙ rw (le-leb least (getD list k 0) a, lt-ltb (getD list k 0) limit b, add-one (getD list k 0), add-one k) refl
