@@ -41,7 +41,7 @@ module _ (p : Plant) (mask : ℕ) (test : ℕ → Bool) where
   within-length = book-length p mask (keptWithin p mask test)
 
 -- a buffer that the checks accept has room
-pub book-fits : (p : Plant) (room : ℕ) → bookRoom p room ≡ true → bookLong (p .states) (p .goals) ≤ room
+book-fits : (p : Plant) (room : ℕ) → bookRoom p room ≡ true → bookLong (p .states) (p .goals) ≤ room
 unfolding bookRoom
 book-fits p room h = leb-true _ _ h
 

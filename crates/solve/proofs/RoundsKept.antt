@@ -4,7 +4,7 @@ use mathlib.Core.Path.{_≡_, refl, sym, ap, _∙_, subst}
 use mathlib.Core.List.{List}
 use Prim.Native.Nat.{ℕ, zero, suc, _≤_}
 use native.Mathlib.Omega.{arith}
-use lib.ListN.{length, take}
+use lib.ListN.{length, take, length-take}
 use lib.Seq.{length-take-le}
 use Rattle.statements.specs.Sets.{numbers, iterate}
 use Rattle.statements.specs.Plants.{Plant}
@@ -27,13 +27,13 @@ module _ (p : Plant) (mask : ℕ) (all : List ℕ) (set : Sifted (numbers (p .st
   pub round-sifted : Sifted (numbers (p .states) 0) (forcedAll (p .goals) p mask all)
   round-sifted = forcedAll-sifted (p .goals) p mask (numbers (p .states) 0) all set
 
-  pub round-shorter : length (forcedAll (p .goals) p mask all) ≤ length all
+  round-shorter : length (forcedAll (p .goals) p mask all) ≤ length all
   round-shorter =
       sifted-longer (numbers (p .states) 0) (forcedAll (p .goals) p mask all) all round-sifted set
       (λ x m. forcedAll-holds (p .goals) p mask all x m .0)
 
   -- it has the same kept states
-  pub round-kept : keptFrom p mask (forcedAll (p .goals) p mask all) ≡ keptFrom p mask all
+  round-kept : keptFrom p mask (forcedAll (p .goals) p mask all) ≡ keptFrom p mask all
   unfolding keptFrom
   round-kept =
       iterate-inside (p .states) (forcedAll (p .goals) p mask) all
@@ -42,7 +42,7 @@ module _ (p : Plant) (mask : ℕ) (all : List ℕ) (set : Sifted (numbers (p .st
       (λ ys x m. forcedAll-holds (p .goals) p mask ys x m .0) (p .states) (sifted-few (p .states) all set)
 
   -- and where it is as long, the set is kept
-  pub round-still : length all ≤ length (forcedAll (p .goals) p mask all) → keptFrom p mask all ≡ all
+  round-still : length all ≤ length (forcedAll (p .goals) p mask all) → keptFrom p mask all ≡ all
   unfolding keptFrom iterate
   round-still l =
       iterate-still 0 (p .states) (forcedAll (p .goals) p mask) all
@@ -56,6 +56,10 @@ pub record Settling (p : Plant) (mask : ℕ) (start all : List ℕ) (kept : ℕ)
   pub set : Sifted (numbers (p .states) 0) (take kept all)
   pub same : keptFrom p mask (take kept all) ≡ keptFrom p mask start
 
+-- a front that is as long as asked for is no longer than the list
+take-fits : (n : ℕ) (xs : List ℕ) → length (take n xs) ≡ n → n ≤ length xs
+take-fits n xs e = omega (arith, length-take n xs)
+
 -- and the next one
 module _ (p : Plant) (mask : ℕ) (small : p .states ≤ 1024) (start all next : List ℕ) (kept left : ℕ)
     (so-far : Settling p mask start all kept) (struck : Struck p mask (take kept all) next left) where
@@ -63,7 +67,7 @@ module _ (p : Plant) (mask : ℕ) (small : p .states ≤ 1024) (start all next :
   pub settle-more : Settling p mask start next left
   settle-more =
       record {
-        fits = struck .fits;
+        fits = take-fits left next (ap length (struck .still) ∙ sym (struck .number));
         set = subst (Sifted (numbers (p .states) 0)) (sym (struck .still))
             (round-sifted p mask (take kept all) (so-far .set) small);
         same = ap (keptFrom p mask) (struck .still) ∙ round-kept p mask (take kept all) (so-far .set) small

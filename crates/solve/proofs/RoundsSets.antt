@@ -101,7 +101,7 @@ module _ (p : Plant) (mask : ℕ) (all : List ℕ) (set : Sifted (numbers (p .st
         (λ i hi q. has-wait i x (f i hi) (sym (wait-at x i hx hi) ∙ q)))
 
     -- those that stay are the states from which every goal is forced
-    pub stay-forced : filter (stays entries (p .goals)) all ≡ forcedAll (p .goals) p mask all
+    stay-forced : filter (stays entries (p .goals)) all ≡ forcedAll (p .goals) p mask all
     stay-forced =
         sifted-same (numbers (p .states) 0) (filter (stays entries (p .goals)) all) (forcedAll (p .goals) p mask all)
         (sifted-sub (stays entries (p .goals)) (numbers (p .states) 0) all set)
@@ -171,7 +171,7 @@ cut-done p mask all kept fits set small entries columns states goals es eg room 
     let number = el ∙ ap length is in
     let front = over-done (forcedAll (p .goals) p mask (take kept all)) all new left
     (omega (arith, few-left, length-take-le kept all fits)) number (en ∙ ap (λ (ys : List ℕ). over ys all) is) in
-    record { fits = front .0; still = front .1; number = number }
+    record { still = front .1; number = number }
 
 -- before the first goal there is no column
 pub columns-start : (p : Plant) (mask : ℕ) (all entries : List ℕ) → Columns p mask all 0 entries

@@ -1,7 +1,7 @@
 -- What a goal's column leaves of the entries past the rows, and what a round leaves of the states kept.
 use mathlib.Core.Path.{_≡_}
 use mathlib.Core.List.{List}
-use Prim.Native.Nat.{ℕ, _≤_}
+use Prim.Native.Nat.{ℕ}
 use lib.ListN.{length, take, drop}
 use Rattle.statements.specs.Plants.{Plant}
 use Rattle.statements.specs.Kept.{forcedAll}
@@ -14,6 +14,5 @@ pub record Rest (place : ℕ) (old new : List ℕ) : Type 0 where
 -- of the states kept before a round those from which every goal can be forced within them are still kept: they stand at
 -- the front of a list, and the number handed on is exactly theirs
 pub record Struck (p : Plant) (mask : ℕ) (before all : List ℕ) (kept : ℕ) : Type 0 where
-  pub fits : kept ≤ length all
   pub still : take kept all ≡ forcedAll (p .goals) p mask before
   pub number : kept ≡ length (forcedAll (p .goals) p mask before)

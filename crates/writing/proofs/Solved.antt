@@ -44,12 +44,12 @@ module _ (s : List ℕ) (mask : ℕ) (start entries : List ℕ) where
     solved-fine = eqb-true _ _ (and-left (eqb (plantFault s) 0) _ can)
 
     -- the start is a rising list of states
-    pub solved-start : rising 0 (plantOf s .states) start ≡ true
+    solved-start : rising 0 (plantOf s .states) start ≡ true
     unfolding solvable
     solved-start = and-left (rising 0 (plantOf s .states) start) _ (and-right (eqb (plantFault s) 0) _ can)
 
     -- the number is how many states are kept
-    pub solved-count : {r : ℕ} → r ≡ solvedCount s mask start entries → length Kept ≡ r
+    solved-count : {r : ℕ} → r ≡ solvedCount s mask start entries → length Kept ≡ r
     solved-count e = solved s mask start entries can .0 ∙ sym e
 
     -- that is few
@@ -65,7 +65,7 @@ module _ (s : List ℕ) (mask : ℕ) (start entries : List ℕ) where
         )
 
     -- and the first of the entries are their rows
-    pub solved-rows : {r : List ℕ} (n : ℕ) → n ≡ 2 * (plantOf s .states * plantOf s .goals)
+    solved-rows : {r : List ℕ} (n : ℕ) → n ≡ 2 * (plantOf s .states * plantOf s .goals)
         → r ≡ solvedRows s mask start entries → take n r ≡ rowNumbers (plantOf s) mask Kept
     solved-rows n e er =
         rw (er, ← solved s mask start entries can .1)
@@ -79,7 +79,7 @@ module _ (s start o : List ℕ) where
   can-write fine rise room = and-true (eq-eqb _ _ fine) (and-true rise (le-leb _ _ room))
 
   -- one that can be written has room
-  pub room-of : writable s start o ≡ true → bookLong (plantOf s .states) (plantOf s .goals) ≤ length o
+  room-of : writable s start o ≡ true → bookLong (plantOf s .states) (plantOf s .goals) ≤ length o
   unfolding writable
   room-of t =
       leb-true _ _ (and-right (rising 0 (plantOf s .states) start) _ (and-right (eqb (plantFault s) 0) _ t))
