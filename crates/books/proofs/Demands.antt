@@ -3,6 +3,7 @@ use Rattle.demands.proofs.Demand2.{demand-2}
 use Rattle.demands.proofs.Demand3.{demand-3}
 use Rattle.books.specs.Demands.{Demands}
 use Rattle.books.proofs.Listed.{lists-dropped}
+use Rattle.books.proofs.Previewed.{previewed}
 use Rattle.books.proofs.Determined.{determined}
 use Rattle.books.proofs.Traces.{demand-3-traced}
 
@@ -12,6 +13,7 @@ demands =
       second = demand-2;
       third = demand-3;
       traced = demand-3-traced;
-      listed = lists-dropped;
+      listed = λ s b gone o o′ d d′ r. lists-dropped;
+      previewed = previewed;
       determined = determined;
     }

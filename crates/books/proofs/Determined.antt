@@ -3,6 +3,7 @@
 use mathlib.Core.Path.{_≡_}
 use Rattle.books.specs.declared.Advice.{Advice}
 use Rattle.books.specs.declared.Answer.{Answer}
+use Rattle.books.specs.declared.Cost.{Cost}
 use Rattle.books.specs.declared.Mask.{Mask}
 use Rattle.books.specs.Says.{Determined}
 
@@ -17,6 +18,9 @@ same-mask en em = λ k. record { number = en k; mask = em k }
 same-answer : {r r′ : Answer} → r .number ≡ r′ .number → r .length ≡ r′ .length → r .drops ≡ r′ .drops → r ≡ r′
 same-answer en el ed = λ k. record { number = en k; length = el k; drops = ed k }
 
+same-cost : {c c′ : Cost} → c .number ≡ c′ .number → c .drops ≡ c′ .drops → c .kept ≡ c′ .kept → c ≡ c′
+same-cost en ed ek = λ k. record { number = en k; drops = ed k; kept = ek k }
+
 pub determined : Determined
 determined =
     record {
@@ -24,4 +28,5 @@ determined =
       moves = λ h k. same-mask (cc) (cc);
       make = λ h k. (same-answer (cc) (cc) (cc), cc);
       withdraw = λ h k. (same-answer (cc) (cc) (cc), cc, cc);
+      preview = λ h k. (same-cost (cc) (cc) (cc), cc);
     }

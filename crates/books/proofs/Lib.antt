@@ -3,6 +3,7 @@ pub mod Consulted
 pub mod Started
 pub mod Made
 pub mod Listed
+pub mod Previewed
 pub mod Determined
 pub mod Traces
 pub mod Demands

@@ -1,5 +1,5 @@
--- The drop list as it is read: an accepted withdrawal's drop buffer has the dropped states, two bytes each, and past
--- them what it had. Assumes nothing.
+-- The drop list as it is read: the drop buffer has the dropped states, two bytes each, and past them what it had.
+-- Assumes nothing.
 use mathlib.Core.Path.{_≡_, refl, sym, ap, ap₂, _∙_}
 use mathlib.Core.List.{List, [], _∷_, _++_}
 use Prim.Native.Nat.{ℕ, _+_, _*_, _/_, _%_}
@@ -10,6 +10,7 @@ use borrow.Author.Tests.{eq-eqb}
 use Rattle.statements.specs.Sets.{over}
 use Rattle.statements.specs.Plants.{word, words, plantOf}
 use Rattle.statements.specs.Books.{two, bytesOf, withdrawnBook, droppedStates}
+use Rattle.statements.specs.Calls.{withdrawFault}
 use Rattle.sets.proofs.Over.{over-length, over-back}
 use Rattle.decoding.proofs.Faults.{withdraw-ok}
 use Rattle.demands.proofs.Demand2.{demand-2}
@@ -38,40 +39,53 @@ module _ (xs d : List ℕ) where
   unfolding over
   over-past = drop-at (bytesOf xs) _ (2 * length xs) (bytes-length xs) ∙ rw bytes-length
 
-module _ (s b : List ℕ) (gone : ℕ) (o o′ d d′ : List ℕ) (r : Answer) (says : WithdrawSays s b gone o o′ d d′ r)
-    (is-accepted : r .number ≡ 0) where
-  abbrev New : List ℕ
-  New = withdrawnBook (plantOf s) b gone
+-- numbers written over the first of a buffer, and how many they are: read back
+pub list-read : (xs d d′ : List ℕ) (n : ℕ) → n ≡ length xs → d′ ≡ over (bytesOf xs) d → words n d′ ≡ xs
+list-read xs d d′ n count list = rw (count, list) (over-read xs d)
 
+-- the states that an accepted withdrawal drops, so written
+module _ (s b : List ℕ) (gone room : ℕ) (d d′ : List ℕ) (n : ℕ)
+    (fine : withdrawFault s b gone room (length d) ≡ 0)
+    (count : n ≡ length (droppedStates b (withdrawnBook (plantOf s) b gone)))
+    (list : d′ ≡ over (bytesOf (droppedStates b (withdrawnBook (plantOf s) b gone))) d) where
   abbrev Dropped : List ℕ
-  Dropped = droppedStates b New
-
-  -- what an accepted call returns, and leaves in its buffers
-  book-read : take (r .length) o′ ≡ New
-  book-read =
-      let q = eq-eqb (r .number) 0 is-accepted in
-      ap (take (r .length)) (rw q at (says .book)) ∙ over-back New o (r .length) (rw q at (says .length-is))
-
-  count-is : r .drops ≡ length Dropped
-  count-is = rw (eq-eqb (r .number) 0 is-accepted) at (says .drops)
-
-  list-is : d′ ≡ over (bytesOf Dropped) d
-  list-is = rw (eq-eqb (r .number) 0 is-accepted) at (says .list)
-
-  list-read : words (r .drops) d′ ≡ Dropped
-  list-read = rw (count-is, list-is) (over-read Dropped d)
+  Dropped = droppedStates b (withdrawnBook (plantOf s) b gone)
 
   -- the drop list
-  pub lists-dropped : Lists s b o′ d d′ r
-  lists-dropped =
-      let no-fault = sym (says .number) ∙ is-accepted in
-      let ok = withdraw-ok s b gone (length o) (length d) no-fault in
-      let room = drops-fit (plantOf s) (length d) (ok .drops-ok) in
+  pub lists : Lists s b (withdrawnBook (plantOf s) b gone) d d′ n
+  lists =
+      let ok = withdraw-ok s b gone room (length d) fine in
+      let fits = drops-fit (plantOf s) (length d) (ok .drops-ok) in
+      let read = list-read Dropped d d′ n count list in
       record {
-        dropped = λ x. rw (list-read, book-read) (demand-2 .dropped s b gone (length o) (length d) no-fault x);
-        rising = rw list-read (demand-2 .rising b New);
+        dropped = λ x. rw read (demand-2 .dropped s b gone room (length d) fine x);
+        rising = rw read (demand-2 .rising b (withdrawnBook (plantOf s) b gone));
         size =
-            ap length list-is
-            ∙ over-length (bytesOf Dropped) d (rw bytes-length (omega (arith, dropped-few b New, ok .states)));
-        past = rw (count-is, list-is) (over-past Dropped d);
+            ap length list
+            ∙ over-length (bytesOf Dropped) d
+            (rw bytes-length (omega (arith, dropped-few b (withdrawnBook (plantOf s) b gone), ok .states)));
+        past = rw (count, list) (over-past Dropped d);
       }
+
+-- what an accepted withdrawal returns, and leaves in its buffers
+module _ {s b : List ℕ} {gone : ℕ} {o o′ d d′ : List ℕ} {r : Answer} (says : WithdrawSays s b gone o o′ d d′ r)
+    (is-accepted : r .number ≡ 0) where
+  no-fault : withdrawFault s b gone (length o) (length d) ≡ 0
+  no-fault = sym (says .number) ∙ is-accepted
+
+  -- the book
+  pub book-read : take (r .length) o′ ≡ withdrawnBook (plantOf s) b gone
+  book-read =
+      let q = eq-eqb (r .number) 0 is-accepted in
+      ap (take (r .length)) (rw q at (says .book)) ∙ over-back _ o (r .length) (rw q at (says .length-is))
+
+  -- the number of states dropped, and their list
+  pub drops-are : r .drops ≡ length (droppedStates b (withdrawnBook (plantOf s) b gone))
+  drops-are = rw (eq-eqb (r .number) 0 is-accepted) at (says .drops)
+
+  pub list-is : d′ ≡ over (bytesOf (droppedStates b (withdrawnBook (plantOf s) b gone))) d
+  list-is = rw (eq-eqb (r .number) 0 is-accepted) at (says .list)
+
+  -- the list as it is read
+  pub lists-dropped : Lists s b (take (r .length) o′) d d′ (r .drops)
+  lists-dropped = rw book-read (lists s b gone (length o) d d′ (r .drops) no-fault drops-are list-is)

@@ -1,10 +1,13 @@
--- What the calls that make, withdraw and give all good moves are held to, in one record: their contracts cite it.
+-- What the calls that make, withdraw, preview and give all good moves are held to, in one record: their contracts cite
+-- it.
 use mathlib.Core.Path.{_≡_}
 use mathlib.Core.List.{List}
 use Prim.Native.Nat.{ℕ}
+use lib.ListN.{take}
 use Rattle.books.specs.declared.Answer.{Answer}
 use Rattle.statements.specs.Demands.{Demand-2, Demand-3}
 use Rattle.books.specs.Says.{WithdrawSays, Lists, Determined}
+use Rattle.books.specs.Previews.{Previews}
 use Rattle.books.specs.Traces.{Demand-3-traced}
 
 pub record Demands : Type 0 where
@@ -15,6 +18,8 @@ pub record Demands : Type 0 where
   pub traced : Demand-3-traced
   -- the drop list of every accepted withdrawal
   pub listed : (s b : List ℕ) (gone : ℕ) (o o′ d d′ : List ℕ) (r : Answer) →
-      WithdrawSays s b gone o o′ d d′ r → r .number ≡ 0 → Lists s b o′ d d′ r
+      WithdrawSays s b gone o o′ d d′ r → r .number ≡ 0 → Lists s b (take (r .length) o′) d d′ (r .drops)
+  -- a preview says what the withdrawal would give
+  pub previewed : Previews
   -- nothing that the calls answer or write is left open
   pub determined : Determined

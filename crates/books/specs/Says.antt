@@ -5,15 +5,16 @@ use mathlib.Core.Bool.{Bool, true, false, _&&_, not}
 use mathlib.Core.List.{List}
 use Prim.Native.Nat.{ℕ, _+_, _*_, _<_}
 use lib.Dec.{eqb}
-use lib.ListN.{length, take, drop}
+use lib.ListN.{length, drop}
 use Rattle.books.specs.declared.Advice.{Advice}
 use Rattle.books.specs.declared.Answer.{Answer}
+use Rattle.books.specs.declared.Cost.{Cost}
 use Rattle.books.specs.declared.Mask.{Mask}
 use Rattle.statements.specs.Sets.{pick, over, isIn}
 use Rattle.statements.specs.Plants.{words, plantOf}
-use Rattle.statements.specs.Books.{bytesOf, bookGoals, waitAt, moveAt, isLost, nextGoal, goodMoves}
+use Rattle.statements.specs.Books.{bytesOf, bookGoals, bookCount, waitAt, moveAt, isLost, nextGoal, goodMoves}
 use Rattle.statements.specs.Books.{madeBook, withdrawnBook, droppedStates}
-use Rattle.statements.specs.Calls.{consultFault, movesFault, makeFault, withdrawFault}
+use Rattle.statements.specs.Calls.{consultFault, movesFault, makeFault, withdrawFault, previewFault}
 use Rattle.statements.specs.Demands.{Rising}
 
 -- a call on a book is accepted
@@ -64,15 +65,24 @@ pub record WithdrawSays (s b : List ℕ) (gone : ℕ) (o o′ d d′ : List ℕ)
   pub list : d′ ≡
       pick (eqb (r .number) 0) (over (bytesOf (droppedStates b (withdrawnBook (plantOf s) b gone))) d) d
 
--- what an accepted withdrawal leaves in the drop buffer, as it is read: as many two-byte numbers as were returned are
--- the states kept in the book b handed in and lost in the book written, the first bytes of o′; they strictly rise; and
--- past them the buffer is as it was
-pub record Lists (s b o′ d d′ : List ℕ) (r : Answer) : Type 0 where
-  pub dropped : (x : ℕ) → (isIn x (words (r .drops) d′) ≡ true) ↔
-      ((x < plantOf s .states) × (isLost b x ≡ false) × (isLost (take (r .length) o′) x ≡ true))
-  pub rising : Rising (words (r .drops) d′)
+-- previewing that withdrawal: the number is 1 to 7 or 0; an accepted call writes the states that the withdrawal would
+-- drop, as it would, and returns their number and K of the book that it would write; a refused one writes nothing and
+-- has 0 in every other field
+pub record PreviewSays (s b : List ℕ) (gone : ℕ) (d d′ : List ℕ) (c : Cost) : Type 0 where
+  pub number : c .number ≡ previewFault s b gone (length d)
+  pub drops : c .drops ≡ pick (eqb (c .number) 0) (length (droppedStates b (withdrawnBook (plantOf s) b gone))) 0
+  pub kept : c .kept ≡ pick (eqb (c .number) 0) (bookCount (withdrawnBook (plantOf s) b gone)) 0
+  pub list : d′ ≡
+      pick (eqb (c .number) 0) (over (bytesOf (droppedStates b (withdrawnBook (plantOf s) b gone))) d) d
+
+-- a drop list as it is read: n two-byte numbers of the drop buffer are the states kept in the book b handed in and lost
+-- in the book after; they strictly rise; and past them the buffer is as it was
+pub record Lists (s b after d d′ : List ℕ) (n : ℕ) : Type 0 where
+  pub dropped : (x : ℕ) → (isIn x (words n d′) ≡ true) ↔
+      ((x < plantOf s .states) × (isLost b x ≡ false) × (isLost after x ≡ true))
+  pub rising : Rising (words n d′)
   pub size : length d′ ≡ length d
-  pub past : drop (2 * r .drops) d′ ≡ drop (2 * r .drops) d
+  pub past : drop (2 * n) d′ ≡ drop (2 * n) d
 
 -- nothing is left open: what is handed in, the buffers' bytes included, fixes each answer and the buffers' bytes
 -- afterwards
@@ -83,3 +93,5 @@ pub record Determined : Type 0 where
       MakeSays s mask o o′ r → MakeSays s mask o o″ r′ → (r ≡ r′) × (o′ ≡ o″)
   pub withdraw : {s b o o′ o″ d d′ d″ : List ℕ} {gone : ℕ} {r r′ : Answer} →
       WithdrawSays s b gone o o′ d d′ r → WithdrawSays s b gone o o″ d d″ r′ → (r ≡ r′) × (o′ ≡ o″) × (d′ ≡ d″)
+  pub preview : {s b d d′ d″ : List ℕ} {gone : ℕ} {c c′ : Cost} →
+      PreviewSays s b gone d d′ c → PreviewSays s b gone d d″ c′ → (c ≡ c′) × (d′ ≡ d″)

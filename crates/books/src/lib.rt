@@ -1,5 +1,5 @@
-// The public calls: make a control book, withdraw moves from one, consult it for a move or for all good ones, hand back
-// a state's row.
+// The public calls: make a control book, withdraw moves from one or see what that would cost, consult it for a move or
+// for all good ones, hand back a state's row.
 mod consult;
 mod start;
 
@@ -10,6 +10,7 @@ ghost use lib.Dec.{eqb};
 ghost use lib.ListN.{length};
 ghost use Rattle.statements.specs.Calls.{rowPart};
 ghost use Rattle.books.specs.Says.{accepted, ConsultSays, MovesSays, rowStart, MakeSays, WithdrawSays};
+ghost use Rattle.books.specs.Says.{PreviewSays};
 ghost use Rattle.books.specs.Demands.{Demands};
 
 // What consult answers. A refused call has its number, and 0 in every other field; a lost state has `lost`, and 0 in
@@ -152,5 +153,30 @@ pub fn withdraw_moves(
         number: 0,
         length: length,
         drops: count,
+    }
+}
+
+// What a preview answers: the number of a refusal or 0, the number of states that the withdrawal would drop and that
+// of the states it would keep. A refused call has 0 in both.
+pub struct Cost {
+    pub number: u8,
+    pub drops: u32,
+    pub kept: u32,
+}
+
+// Takes a plant, a book, a mask of moves to withdraw and a drop buffer. Writes, by rising number, the states that the
+// withdrawal would drop; returns how many they are and how many it would keep. The withdrawal is made in memory of the
+// call's own, which has room for the longest book and keeps its zeros when it is refused.
+pub fn preview_withdrawal(plant: &[u8], book: &[u8], mask: u32, drops: &mut [u8]) -> Cost
+    ensures { λ r. ⌜ PreviewSays (now (plant .entry)) (now (book .entry)) mask
+        (now (drops .entry)) (now (drops .exit)) r ⌝ }
+    ensures demands { λ _. ⌜ Demands ⌝ }
+{
+    let mut next = [0u8; 32784];
+    let answer = withdraw_moves(plant, book, mask, &mut next, drops);
+    Cost {
+        number: answer.number,
+        drops: answer.drops,
+        kept: format::word::number(&next, 3) as u32,
     }
 }

@@ -10,7 +10,8 @@ use Rattle.statements.specs.Kept.{waitOf, listedMove}
 use Rattle.statements.specs.Books.{two, lostMark, bookLong, entryOf, rowOf, headOf, bookBytes}
 use Rattle.sets.proofs.Tests.{decided}
 use Rattle.sets.proofs.Joined.{append-bytes, joined-bytes}
-use Rattle.decoding.proofs.Fits.{Fits, kept-count, mask-below, long-most}
+use Rattle.decoding.proofs.Sizes.{long-most}
+use Rattle.decoding.proofs.Fits.{Fits, kept-count, mask-below}
 
 two-bytes : (v : ℕ) → v < 65536 → (k : ℕ) → getD (two v) k 0 < 256
 unfolding two
@@ -47,7 +48,7 @@ module _ (p : Plant) (mask : ℕ) (kept : List ℕ) (fits : Fits p mask kept) wh
       (then-bytes (mask % 65536) _ (omega arith)
       (then-bytes (mask / 65536) _ (omega (arith, mask-below p mask kept fits))
       (then-bytes 16 _ (omega arith)
-      (two-bytes (bookLong (p .states) (p .goals)) (omega (arith, long-most p mask kept fits)))))))))
+      (two-bytes (bookLong (p .states) (p .goals)) (omega (arith, long-most (fits .sizes))))))))))
 
   pub book-bytes : (k : ℕ) → getD (bookBytes p mask kept) k 0 < 256
   unfolding bookBytes rowOf

@@ -1,30 +1,34 @@
 -- What it gives that a plant, a book or a call is accepted, and what a call answers once the plant and book are.
 -- Assumes nothing.
-use mathlib.Core.Path.{_≡_, refl, sym, ap}
+use mathlib.Core.Path.{_≡_, refl, sym, ap, _∙_}
 use mathlib.Core.Logic.{_↔_, inl, inr}
 use mathlib.Core.Bool.{Bool, true, false, _&&_, _||_, not, true≢false}
 use mathlib.Core.List.{List, [], _∷_}
 use Prim.Native.Nat.{ℕ, zero, suc, _*_, _≤_, _<_}
-use native.Mathlib.Nat.{mul-le-mul}
 use native.Mathlib.Omega.{arith}
 use native.Mathlib.Decide.{decLt}
 use lib.Dec.{eqb, ltb, leb}
 use lib.ListN.{length, drop, List·getD-eq-default}
-use borrow.Author.Tests.{ltb-true, leb-true, eqb-true}
+use borrow.Author.Tests.{ltb-true, leb-true, le-leb, eqb-true}
 use Rattle.statements.specs.Sets.{every, bit, isIn}
 use Rattle.statements.specs.Plants.{word, Arrow, Plant, words, plantOf, headOk, labelsOk, arrowsOk, rank}
 use Rattle.statements.specs.Plants.{firstOf, when, plantFault, allowed, endsIn}
 use Rattle.statements.specs.Books.{bookLong, bookStates, bookMoves, bookGoals, bookMask, maskOk, bookHeadOk, rowsOk}
 use Rattle.statements.specs.Books.{bookCount, isLost, isHeld, bookKept, bookFault}
-use Rattle.statements.specs.Calls.{maskFault, bookRoom, dropRoom, makeFault, alike, withdrawFault, makes, withdraws}
-use Rattle.statements.specs.Calls.{toldOf}
-use Rattle.sets.proofs.Tests.{and-left, and-right, and-iff}
+use Rattle.statements.specs.Calls.{maskFault, bookRoom, dropRoom, makeFault, alike, lentFault, withdrawFault}
+use Rattle.statements.specs.Calls.{previewFault, makes, withdraws, toldOf}
+use Rattle.sets.proofs.Tests.{same-number, and-left, and-right, and-iff}
 use Rattle.sets.proofs.Members.{isIn-none, isIn-consIf}
-use Rattle.decoding.proofs.Sizes.{Sizes}
+use Rattle.decoding.proofs.Sizes.{Sizes, entries-most, long-most}
 
 pub first-iff : (a b : ℕ) → (firstOf a b ≡ 0) ↔ ((a ≡ 0) × (b ≡ 0))
 first-iff zero b = (λ h. (refl, h), λ h. h .1)
 first-iff (suc a) b = (λ h. absurd (omega arith), λ h. h .0)
+
+-- the first answer stands if it is not 0
+pub first-given : (a b : ℕ) → (a ≡ 0 → ⊥) → firstOf a b ≡ a
+first-given zero b h = absurd (h refl)
+first-given (suc a) b h = refl
 
 -- a refusal when a test fails
 pub when-iff : (t : Bool) (n : ℕ) → (when (not t) (suc n) ≡ 0) ↔ (t ≡ true)
@@ -68,13 +72,16 @@ plant-ok s h =
       arrows-ok = tests .2;
     }
 
--- its states are few, and so are the entries of its books
+-- its states are few, and so are the entries and the bytes of its books
 module _ (s : List ℕ) (fine : plantFault s ≡ 0) where
   pub states-few : plantOf s .states ≤ 1024
   states-few = plant-ok s fine .sizes .states-most
 
   pub entries-few : plantOf s .states * plantOf s .goals ≤ 1024 * 8
-  entries-few = let z = plant-ok s fine .sizes in mul-le-mul (z .states-most) (z .goals-most)
+  entries-few = entries-most (plant-ok s fine .sizes)
+
+  pub long-few : bookLong (plantOf s .states) (plantOf s .goals) ≤ 32784
+  long-few = long-most (plant-ok s fine .sizes)
 
 -- arrows in range start, move and end in range
 pub arrow-range : (arrows : List Arrow) (s u least x v y : ℕ) → arrowsOk s u least arrows ≡ true
@@ -166,28 +173,46 @@ pub record WithdrawOk (s b : List ℕ) (gone room drops : ℕ) : Type 0 where
 
 pub withdraw-ok : (s b : List ℕ) (gone room drops : ℕ) → withdrawFault s b gone room drops ≡ 0
     → WithdrawOk s b gone room drops
-unfolding withdrawFault maskFault alike
+unfolding withdrawFault lentFault maskFault alike
 withdraw-ok s b gone room drops h =
     let p = plantOf s in
-    let all = first-iff (plantFault s) _ .0 h in
-    let after-plant = first-iff (when (not (bookHeadOk b && alike p b)) 4) _ .0 (all .1) in
+    let all = first-iff (lentFault s b gone) _ .0 h in
+    let lent = first-iff (plantFault s) _ .0 (all .0) in
+    let after-plant = first-iff (when (not (bookHeadOk b && alike p b)) 4) _ .0 (lent .1) in
     let after-head = first-iff (bookFault b) _ .0 (after-plant .1) in
-    let after-book = first-iff (when (not (maskOk (p .moves) gone)) 6) _ .0 (after-head .1) in
     let same = and-right (bookHeadOk b) (alike p b) (when-iff (bookHeadOk b && alike p b) 3 .0 (after-plant .0)) in
     let sizes = simp and-iff at same in
-    let rooms = and-iff (bookRoom p room) (dropRoom p drops) .0 (when-iff _ 6 .0 (after-book .1)) in
+    let rooms = and-iff (bookRoom p room) (dropRoom p drops) .0 (when-iff _ 6 .0 (all .1)) in
     let moves-same : bookMoves b ≡ p .moves = omega (arith, eqb-true) in
     record {
-      plant = all .0;
+      plant = lent .0;
       book = after-head .0;
       states = omega (arith, eqb-true);
       moves = moves-same;
       goals = omega (arith, eqb-true);
       mask-ok = rw moves-same at (book-ok b (after-head .0) .mask-ok);
-      gone-ok = when-iff _ 5 .0 (after-book .0);
+      gone-ok = when-iff _ 5 .0 (after-head .1);
       room-ok = rooms .0;
       drops-ok = rooms .1;
     }
+
+-- a preview answers as the withdrawal does with a book buffer that is long enough; 32,784 bytes are, unless the plant
+-- is refused
+module _ (s b : List ℕ) (gone room drops : ℕ) where
+  pub preview-as : bookLong (plantOf s .states) (plantOf s .goals) ≤ room
+      → previewFault s b gone drops ≡ withdrawFault s b gone room drops
+  unfolding previewFault withdrawFault bookRoom
+  preview-as h = rw (le-leb _ _ h)
+
+  pub preview-as-longest : room ≡ 32784 → previewFault s b gone drops ≡ withdrawFault s b gone room drops
+  unfolding previewFault withdrawFault lentFault
+  preview-as-longest e =
+      elim (same-number (lentFault s b gone) 0) [
+        | inl z ↦
+            let plant = first-iff (plantFault s) _ .0 z .0 in
+            preview-as (omega (arith, long-few s plant))
+        | inr h ↦ first-given (lentFault s b gone) _ h ∙ sym (first-given (lentFault s b gone) _ h)
+      ]
 
 -- once the plant is accepted, a make answers as told from the call alone
 pub make-told : (s : List ℕ) (mask room : ℕ) → plantFault s ≡ 0
@@ -199,5 +224,5 @@ make-told s mask room h = rw h
 pub withdraw-told : (s b : List ℕ) (gone room drops : ℕ) → plantFault s ≡ 0 → bookFault b ≡ 0
     → alike (plantOf s) b ≡ true
     → withdrawFault s b gone room drops ≡ toldOf (plantOf s) (withdraws gone room drops)
-unfolding withdrawFault toldOf
+unfolding withdrawFault lentFault toldOf
 withdraw-told s b gone room drops h hb same = rw (h, book-ok b hb .head, same, hb)

@@ -5,13 +5,13 @@ use mathlib.Core.Bool.{true}
 use mathlib.Core.List.{List}
 use Prim.Native.Nat.{ℕ, _^_, _≤_, _<_}
 use native.Mathlib.Omega.{arith}
-use native.Mathlib.Nat.{pow-le-pow-right, mul-le-mul}
+use native.Mathlib.Nat.{pow-le-pow-right}
 use lib.ListN.{length}
 use borrow.Author.Tests.{ltb-true}
 use Rattle.statements.specs.Sets.{bit, isIn, numbers}
 use Rattle.statements.specs.Plants.{Plant}
 use Rattle.statements.specs.Kept.{waitOf, listedMove}
-use Rattle.statements.specs.Books.{maskOk, bookLong}
+use Rattle.statements.specs.Books.{maskOk}
 use Rattle.sets.proofs.Members.{Sifted, sifted-member, numbers-holds, filter-length, length-numbers}
 use Rattle.decoding.proofs.Sizes.{Sizes}
 
@@ -38,7 +38,3 @@ module _ (p : Plant) (mask : ℕ) (kept : List ℕ) (fits : Fits p mask kept) wh
   mask-below =
       let power : 2 ^ p .moves ≤ 2 ^ 32 = pow-le-pow-right (omega arith) (fits .sizes .moves-most) in
       omega (arith, ltb-true mask (2 ^ p .moves) (fits .mask-ok))
-
-  pub long-most : bookLong (p .states) (p .goals) ≤ 32784
-  unfolding bookLong
-  long-most = omega (arith, mul-le-mul (fits .sizes .states-most) (fits .sizes .goals-most))

@@ -1,21 +1,28 @@
 -- Demand 2: the books of a making and of a withdrawal from any book are right, being books within a test that holds at
 -- states alone; the drop list is a filter of the states kept before, so that it rises. Assumes nothing.
-use mathlib.Core.Path.{_≡_, ap}
+use mathlib.Core.Path.{_≡_, sym, ap, _∙_}
 use mathlib.Core.Logic.{_↔_}
-use mathlib.Core.Bool.{true, false, not, _&&_}
+use mathlib.Core.Bool.{Bool, true, false, not, _&&_}
 use mathlib.Core.List.{List}
-use Prim.Native.Nat.{ℕ, _<_}
+use Prim.Native.Nat.{ℕ, _+_, _<_}
 use native.Mathlib.Omega.{arith}
 use borrow.Author.Tests.{not-true}
-use Rattle.statements.specs.Sets.{isIn, numbers}
-use Rattle.statements.specs.Plants.{plantOf}
-use Rattle.statements.specs.Books.{bookStates, isLost, bookKept, madeBook, withdrawnBook, droppedStates}
-use Rattle.statements.specs.Demands.{Rising, Demand-2}
-use Rattle.sets.proofs.Members.{filter-holds, filter-in, filter-filter, numbers-holds, numbers-in}
+use lib.ListN.{length}
+use Rattle.statements.specs.Sets.{isIn, numbers, filter}
+use Rattle.statements.specs.Plants.{plantOf, allowed}
+use Rattle.statements.specs.Books.{bookStates, bookCount, bookMask, isLost, bookKept, lessMask, madeBook, keptBefore}
+use Rattle.statements.specs.Books.{withdrawnBook, droppedStates}
+use Rattle.statements.specs.Calls.{withdrawFault}
+use Rattle.statements.specs.Demands.{IsBook, KeptBefore, Rising, Demand-2}
+use Rattle.sets.proofs.Tests.{and-true, and-right, same-test}
+use Rattle.sets.proofs.Members.{filter-holds, filter-in, filter-same, filter-filter, filter-parts, numbers-holds}
+use Rattle.sets.proofs.Members.{numbers-in}
 use Rattle.sets.proofs.Rising.{filter-rises}
-use Rattle.decoding.proofs.Faults.{withdraw-ok}
+use Rattle.kept.proofs.Kept.{kept-within}
+use Rattle.decoding.proofs.Faults.{book-ok, withdraw-ok}
 use Rattle.demands.proofs.Plants.{given-made, given-withdrawn}
-use Rattle.demands.proofs.Books.{right}
+use Rattle.demands.proofs.Rules.{lost-kept}
+use Rattle.demands.proofs.Books.{is-book, right}
 
 -- the states kept in any book
 kept-iff : (b : List ℕ) (x : ℕ) → (isIn x (bookKept b) ≡ true) ↔ ((x < bookStates b) × (isLost b x ≡ false))
@@ -51,6 +58,54 @@ unfolding droppedStates bookKept
 dropped-rising b after =
     rw filter-filter (filter-rises (λ x. not (isLost b x) && isLost after x) (bookStates b) 0)
 
+-- the book of an accepted withdrawal
+module _ (s b : List ℕ) (gone room drops : ℕ) (h : withdrawFault s b gone room drops ≡ 0) where
+  abbrev After : List ℕ
+  After = withdrawnBook (plantOf s) b gone
+
+  -- what document 01 says of it
+  new : IsBook (plantOf s) (lessMask (bookMask b) gone) (KeptBefore (plantOf s) b) After
+  unfolding withdrawnBook
+  new = is-book (given-withdrawn s b gone room drops h)
+
+  -- a state that the new book keeps was kept before
+  kept-before : (x : ℕ) → x < plantOf s .states → isLost After x ≡ false → isLost b x ≡ false
+  unfolding withdrawnBook keptBefore
+  kept-before x hx e =
+      let p = plantOf s in
+      let k = lost-kept (given-withdrawn s b gone room drops h) x hx .0 e in
+      let w = kept-within p (lessMask (bookMask b) gone) (keptBefore p b) x k .1 in
+      not-true (isLost b x) (and-right (allowed p x) _ w)
+
+  -- so that of the states kept before those still kept are all that the new book keeps
+  still-kept : filter (λ x. not (isLost After x)) (bookKept b) ≡ bookKept After
+  unfolding bookKept
+  still-kept =
+      let was : ℕ → Bool = λ x. not (isLost b x) in
+      let is : ℕ → Bool = λ x. not (isLost After x) in
+      let both : (x : ℕ) → isIn x (numbers (bookStates b) 0) ≡ true → (was x && is x) ≡ is x =
+      λ x m.
+      let l : x < plantOf s .states =
+      omega (arith, numbers-holds (bookStates b) 0 x m, withdraw-ok s b gone room drops h .states) in
+      same-test (was x && is x) (is x) (and-right (was x) (is x))
+      (λ k. and-true (ap not (kept-before x l (not-true (isLost After x) k))) k) in
+      filter-filter is was (numbers (bookStates b) 0)
+      ∙ filter-same (λ x. was x && is x) is (numbers (bookStates b) 0) both
+      ∙ ap (λ (n : ℕ). filter is (numbers n 0))
+      (withdraw-ok s b gone room drops h .states ∙ sym (new .states))
+
+  -- the states dropped and those still kept
+  adds-up : length (droppedStates b After) + bookCount After ≡ bookCount b
+  unfolding droppedStates
+  adds-up =
+      omega (
+        arith,
+        filter-parts (isLost After) (bookKept b),
+        ap length still-kept,
+        new .count,
+        book-ok b (withdraw-ok s b gone room drops h .book) .count,
+      )
+
 -- demand 2
 pub demand-2 : Demand-2
 unfolding madeBook withdrawnBook
@@ -61,4 +116,5 @@ demand-2 =
       dropped = λ s b gone room drops h x.
           rw (withdraw-ok s b gone room drops h .states) at (dropped-iff b (withdrawnBook (plantOf s) b gone) x);
       rising = dropped-rising;
+      adds-up = adds-up;
     }

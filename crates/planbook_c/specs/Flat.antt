@@ -9,8 +9,10 @@ use Rattle.statements.specs.Books.{isLost, waitAt, moveAt, nextGoal}
 use Rattle.statements.specs.Calls.{consultFault, rowPart}
 use Rattle.books.specs.Says.{accepted, keeps, rowStart}
 use Rattle.books.specs.declared.Answer as planner
+use Rattle.books.specs.declared.Cost as planner-cost
 use Rattle.books.specs.declared.Mask as planner-mask
 use Rattle.planbook_c.specs.declared.Answer.{Answer}
+use Rattle.planbook_c.specs.declared.Cost.{Cost}
 use Rattle.planbook_c.specs.declared.Advice.{Advice}
 use Rattle.planbook_c.specs.declared.Mask.{Mask}
 use Rattle.planbook_c.specs.declared.Part.{Part}
@@ -18,6 +20,10 @@ use Rattle.planbook_c.specs.declared.Part.{Part}
 -- an answer of make or withdraw with the planner's own type
 abbrev pub plain : Answer → planner.Answer
 plain r = record { number = r .number; length = r .length; drops = r .drops }
+
+-- an answer of preview with the planner's own type
+abbrev pub plainCost : Cost → planner-cost.Cost
+plainCost r = record { number = r .number; drops = r .drops; kept = r .kept }
 
 -- an answer of the call for all good moves with the planner's own type
 abbrev pub plainMask : Mask → planner-mask.Mask

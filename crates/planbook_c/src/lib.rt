@@ -2,8 +2,8 @@
 // include/planbook.h says the same in C.
 ghost use mathlib.Core.Path.{_≡_};
 ghost use Rattle.statements.specs.Sets.{pick};
-ghost use Rattle.books.specs.Says.{MakeSays, WithdrawSays, MovesSays};
-ghost use Rattle.planbook_c.specs.Flat.{plain, plainMask, AdviceSays, PartSays};
+ghost use Rattle.books.specs.Says.{MakeSays, WithdrawSays, PreviewSays, MovesSays};
+ghost use Rattle.planbook_c.specs.Flat.{plain, plainCost, plainMask, AdviceSays, PartSays};
 
 // What make and withdraw answer: a refusal's number or 0, the book's length, the number of states dropped.
 #[repr(C)]
@@ -11,6 +11,15 @@ pub struct Answer {
     pub number: u32,
     pub length: u32,
     pub drops: u32,
+}
+
+// What preview answers: a refusal's number or 0, the number of states that the withdrawal would drop and that of the
+// states it would keep.
+#[repr(C)]
+pub struct Cost {
+    pub number: u32,
+    pub drops: u32,
+    pub kept: u32,
 }
 
 // What consult answers: a refusal's number or 0, 1 for a lost state, or the move, the wait and the goal to seek next.
@@ -78,6 +87,21 @@ pub extern "C" fn planbook_withdraw(
         (now (out .entry)) (now (out .exit)) (now (drops .entry)) (now (drops .exit)) (plain r) ⌝ }
 {
     flat(books::withdraw_moves(plant, book, mask, out, drops))
+}
+
+// Takes a plant, a book, a mask of moves to withdraw and a drop buffer. Writes, by rising number, the states that the
+// withdrawal would drop; returns how many they are and how many it would keep.
+#[no_mangle]
+pub extern "C" fn planbook_preview(plant: &[u8], book: &[u8], mask: u32, drops: &mut [u8]) -> Cost
+    ensures { λ r. ⌜ PreviewSays (now (plant .entry)) (now (book .entry)) mask
+        (now (drops .entry)) (now (drops .exit)) (plainCost r) ⌝ }
+{
+    let r = books::preview_withdrawal(plant, book, mask, drops);
+    Cost {
+        number: r.number as u32,
+        drops: r.drops,
+        kept: r.kept,
+    }
 }
 
 // Takes a book, a state and the goal sought. Answers lost, or the move, the wait and the goal to seek next.

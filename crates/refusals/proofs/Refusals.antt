@@ -8,16 +8,16 @@ use lib.Dec.{eqb, leb}
 use borrow.Author.Tests.{not-false}
 use Rattle.statements.specs.Plants.{Plant, firstOf, when, plantOf, plantFault}
 use Rattle.statements.specs.Books.{bookStates, bookGoals, maskOk, bookHeadOk, rowsOk, bookFault}
-use Rattle.statements.specs.Calls.{maskFault, bookRoom, dropRoom, makeFault, alike, withdrawFault, withdraws}
-use Rattle.statements.specs.Calls.{consultFault, movesFault, toldOf}
+use Rattle.statements.specs.Calls.{maskFault, bookRoom, dropRoom, makeFault, alike, lentFault, withdrawFault}
+use Rattle.statements.specs.Calls.{withdraws, consultFault, movesFault, toldOf}
 use Rattle.sets.proofs.Tests.{decided, or-neither}
-use Rattle.decoding.proofs.Faults.{make-told, withdraw-told}
+use Rattle.decoding.proofs.Faults.{first-given, make-told, withdraw-told}
 use Rattle.rows.proofs.Faults.{fault-4, fault-5, no-book-fault}
 
--- the first answer stands if it is not 0
-first-given : (a b : ℕ) → (a ≡ 0 → ⊥) → firstOf a b ≡ a
-first-given zero b h = absurd (h refl)
-first-given (suc a) b h = refl
+-- the first answer of three stands if it is not 0
+first-of-all : (a b c : ℕ) → (a ≡ 0 → ⊥) → firstOf (firstOf a b) c ≡ a
+first-of-all zero b c h = absurd (h refl)
+first-of-all (suc a) b c h = refl
 
 -- once the plant and the book are accepted: 6 for a bad mask, and for a good one 7 or 0 by the room
 module _ (p : Plant) (mask : ℕ) (room : Bool) where
@@ -78,20 +78,20 @@ unlike s b answer e =
 -- withdraw returns the plant's own answer
 pub withdraw-plant : (s b : List ℕ) (gone room drops : ℕ) → (plantFault s ≡ 0 → ⊥)
     → withdrawFault s b gone room drops ≡ plantFault s
-unfolding withdrawFault
-withdraw-plant s b gone room drops h = first-given (plantFault s) _ h
+unfolding withdrawFault lentFault
+withdraw-plant s b gone room drops h = first-of-all (plantFault s) _ _ h
 
 module _ (s b : List ℕ) (gone room drops : ℕ) (plant : plantFault s ≡ 0) where
   -- 4 for a bad header, or a book for other numbers of states, moves or goals than the plant has
   pub withdraw-4 : Unlike s b (bookFault b) ≡ true → withdrawFault s b gone room drops ≡ 4
-  unfolding withdrawFault
+  unfolding withdrawFault lentFault
   withdraw-4 u = rw (plant, unlike s b (bookFault b) refl, u)
 
   module _ (like : Unlike s b (bookFault b) ≡ false) where
     -- the book's own answer
     pub withdraw-book : (bookFault b ≡ 0 → ⊥) → withdrawFault s b gone room drops ≡ bookFault b
-    unfolding withdrawFault
-    withdraw-book h = rw (plant, unlike s b (bookFault b) refl, like) (first-given (bookFault b) _ h)
+    unfolding withdrawFault lentFault
+    withdraw-book h = rw (plant, unlike s b (bookFault b) refl, like) (first-of-all (bookFault b) _ _ h)
 
     -- or, the book being accepted, 6, and for a good mask 7 or 0
     module _ (book : bookFault b ≡ 0) where

@@ -13,7 +13,7 @@ use Rattle.statements.specs.Plants.{Plant, firstOf, plantOf, plantFault, allowe
 use Rattle.statements.specs.Books.{bookLong, bookFault, maskOk, lessMask, madeBook, withdrawnBook}
 use Rattle.statements.specs.Calls.{maskFault, bookRoom, dropRoom, alike, withdrawFault, toldOf}
 use Rattle.decoding.proofs.Masks.{less-ok}
-use Rattle.decoding.proofs.Faults.{plant-ok, when-iff, make-told, withdraw-told, states-few, entries-few}
+use Rattle.decoding.proofs.Faults.{plant-ok, when-iff, make-told, withdraw-told, states-few, long-few}
 use Rattle.demands.proofs.Afresh.{made-alike, made-accepted, withdrawn-afresh}
 use Rattle.books.specs.declared.Answer.{Answer}
 use Rattle.books.specs.Says.{MakeSays, WithdrawSays}
@@ -52,16 +52,6 @@ module _ (p : Plant) where
   unfolding maskFault
   mask-fine mask h = when-iff (maskOk (p .moves) mask) 5 .0 h
 
-module _ (s : List ℕ) (fine : plantFault s ≡ 0) where
-  -- the longest book has 32,784 bytes
-  pub long-most : bookLong (plantOf s .states) (plantOf s .goals) ≤ 32784
-  unfolding bookLong
-  long-most = omega (arith, entries-few s fine)
-
-  -- the longest list of dropped states has 2,048
-  pub drops-most : 2 * plantOf s .states ≤ 2048
-  drops-most = omega (arith, states-few s fine)
-
 -- parts of buffers that have room for any book
 pub parts-ready : {s d : List ℕ} {long : ℕ} (b o : List ℕ) → plantFault s ≡ 0
     → long ≡ bookLong (plantOf s .states) (plantOf s .goals) → 32784 ≡ length b → 32784 ≡ length o → 2048 ≡ length d
@@ -69,9 +59,9 @@ pub parts-ready : {s d : List ℕ} {long : ℕ} (b o : List ℕ) → plantFault 
 parts-ready {s} {d} {long} b o fine e hb ho hd =
     record {
       plant = fine;
-      first = length-take-le long b (omega (arith, long-most s fine)) ∙ e;
-      second = length-take-le long o (omega (arith, long-most s fine)) ∙ e;
-      drops = omega (arith, drops-most s fine);
+      first = length-take-le long b (omega (arith, long-few s fine)) ∙ e;
+      second = length-take-le long o (omega (arith, long-few s fine)) ∙ e;
+      drops = omega (arith, states-few s fine);
     }
 
 -- making in buffers of just the book's length
@@ -137,7 +127,7 @@ module _ {s b o d : List ℕ} (st : Standing s b o d) where
       module _ (zero-is : r .number ≡ 0) where
         -- an accepted one leaves the drop buffer as long as it was
         drops-long : length d′ ≡ length d
-        drops-long = lists-dropped s b gone o o′ d d′ r says zero-is .size
+        drops-long = lists-dropped says zero-is .size
 
         -- and writes the whole second buffer
         whole : o′ ≡ withdrawnBook (plantOf s) b gone

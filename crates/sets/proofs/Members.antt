@@ -2,7 +2,7 @@
 -- Assumes nothing.
 use mathlib.Core.Path.{_≡_, refl, sym, _∙_, ap}
 use mathlib.Core.Logic.{_⊎_, inl, inr, ⊎-elim}
-use mathlib.Core.Bool.{Bool, true, false, _&&_}
+use mathlib.Core.Bool.{Bool, true, false, _&&_, not}
 use mathlib.Core.List.{List, [], _∷_, _++_}
 use Prim.Native.Nat.{ℕ, zero, suc, _+_, _≤_, _<_}
 use native.Mathlib.Nat.{add-zero, zero-add}
@@ -166,6 +166,17 @@ filter-length f (x ∷ xs) = shorter (f x) (filter-length f xs)
     shorter : (b : Bool) → length (filter f xs) ≤ length xs → length (consIf b x (filter f xs)) ≤ length (x ∷ xs)
     shorter true l = omega arith
     shorter false l = omega arith
+
+-- those at which a test holds and those at which it fails are together all
+pub filter-parts : (f : ℕ → Bool) (xs : List ℕ)
+    → length (filter f xs) + length (filter (λ x. not (f x)) xs) ≡ length xs
+unfolding filter
+filter-parts f [] = refl
+filter-parts f (x ∷ xs) =
+    elim (decided (f x)) [
+      | inl h ↦ rw h (omega (arith, filter-parts f xs))
+      | inr h ↦ rw h (omega (arith, filter-parts f xs))
+    ]
 
 consIf-as-long : (a b : Bool) (x : ℕ) (ys zs : List ℕ) → (a ≡ true → b ≡ true) → length ys ≤ length zs →
     (length ys ≡ length zs → ys ≡ zs) → length (consIf a x ys) ≡ length (consIf b x zs) →

@@ -5,7 +5,7 @@ use Prim.Native.Nat.{ℕ, suc, _+_, _-_, _≤_, _<_}
 use native.Mathlib.Nat.{add-zero, zero-add}
 use native.Mathlib.Numerals.{add-one}
 use native.Mathlib.Omega.{arith}
-use lib.ListN.{length, getD, take, drop, set, length-append, length-drop}
+use lib.ListN.{length, getD, take, drop, set, length-append, length-drop, List·getD-append}
 use lib.Seq.{sets, sets-eq, set-at, set-comm, take-append-seam, drop-append-add, drop-drop, drop-cons, append-snoc}
 use lib.Seq.{getD-append-add, getD-drop}
 use Rattle.statements.specs.Sets.{over}
@@ -24,6 +24,11 @@ over-length xs old h = simp (length-append, length-drop) (omega arith)
 pub over-back : (xs old : List ℕ) (n : ℕ) → n ≡ length xs → take n (over xs old) ≡ xs
 unfolding over
 over-back xs old n e = rw e (take-append-seam xs (drop (length xs) old))
+
+-- one by one
+pub over-first : (xs old : List ℕ) (k : ℕ) → k < length xs → getD (over xs old) k 0 ≡ getD xs k 0
+unfolding over
+over-first xs old k h = List·getD-append xs (drop (length xs) old) 0 k h
 
 -- past it the list is as it was
 pub over-at : (xs old : List ℕ) (k : ℕ) → length xs ≤ k → getD (over xs old) k 0 ≡ getD old k 0

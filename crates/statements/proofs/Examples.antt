@@ -12,14 +12,14 @@ use Rattle.statements.specs.Books.{bookGoals, bookCount, bookMask, waitA
 use Rattle.statements.specs.Books.{maskOk, bookHeadOk, rowsOk, bookFault, nextGoal, lessMask, bookWithin}
 use Rattle.statements.specs.Books.{nearerIn, goodMoves}
 use Rattle.statements.specs.Books.{madeBook, keptBefore, withdrawnBook, droppedStates}
-use Rattle.statements.specs.Calls.{maskFault, bookRoom, dropRoom, makeFault, alike, withdrawFault, consultFault}
-use Rattle.statements.specs.Calls.{rowPart, answerOf, writtenBy, standingAfter, standing, answers, toldOf, told}
-use Rattle.statements.specs.Calls.{putBy, inService, movesFault}
+use Rattle.statements.specs.Calls.{maskFault, bookRoom, dropRoom, makeFault, alike, lentFault, withdrawFault}
+use Rattle.statements.specs.Calls.{previewFault, consultFault, movesFault, rowPart, answerOf, writtenBy}
+use Rattle.statements.specs.Calls.{standingAfter, standing, answers, toldOf, told, putBy, inService}
 use Rattle.statements.specs.Marked.{plantP, plantStill, plantLoop, plantMay, plantEnd, bookP, lostRow}
-use Rattle.statements.specs.Marked.{bookM1, bookM2, bookM9, allLost, Marked, Marked-moves}
+use Rattle.statements.specs.Marked.{bookM1, bookM2, bookM9, allLost, Marked, Marked-moves, Marked-previews}
 
 pub marked : Marked
-unfolding bit numbers every first joined iterate isIn allIn filter word words arrowsFrom plantOf headOk labelsOk rank arrowsOk plantFault allowed inGoal endsIn ends available goesInto moveInto can grown target forced forcedAll keptRound keptWithin level waitOf nearer listedMove two bookLong entryOf rowOf headOf bookBytes bookStates bookMoves bookGoals bookCount bookMask waitAt moveAt isLost isHeld bookKept maskOk bookHeadOk rowsOk bookFault nextGoal lessMask bookWithin madeBook keptBefore withdrawnBook droppedStates maskFault bookRoom dropRoom makeFault alike withdrawFault consultFault rowPart answerOf writtenBy standingAfter standing answers toldOf told putBy inService bytesOf plantP plantStill plantLoop plantMay plantEnd bookP lostRow bookM1 bookM2 bookM9 allLost
+unfolding bit numbers every first joined iterate isIn allIn filter word words arrowsFrom plantOf headOk labelsOk rank arrowsOk plantFault allowed inGoal endsIn ends available goesInto moveInto can grown target forced forcedAll keptRound keptWithin level waitOf nearer listedMove two bookLong entryOf rowOf headOf bookBytes bookStates bookMoves bookGoals bookCount bookMask waitAt moveAt isLost isHeld bookKept maskOk bookHeadOk rowsOk bookFault nextGoal lessMask bookWithin madeBook keptBefore withdrawnBook droppedStates maskFault bookRoom dropRoom makeFault alike lentFault withdrawFault consultFault rowPart answerOf writtenBy standingAfter standing answers toldOf told putBy inService bytesOf plantP plantStill plantLoop plantMay plantEnd bookP lostRow bookM1 bookM2 bookM9 allLost
 marked =
     record {
       m1 = record { accepted = refl; short = refl; book = refl };
@@ -49,5 +49,16 @@ marked-moves =
       empty = record { accepted = refl; moves-are = refl };
       no-state = refl;
       no-goal = refl;
+      unlike = refl;
+    }
+
+pub marked-previews : Marked-previews
+unfolding bit numbers every first joined iterate isIn allIn filter word words arrowsFrom plantOf headOk labelsOk rank arrowsOk plantFault allowed inGoal endsIn ends available goesInto moveInto can grown target forced forcedAll keptRound keptWithin level waitOf nearer listedMove two bookLong entryOf rowOf headOf bookBytes bookStates bookMoves bookGoals bookCount bookMask waitAt moveAt isLost isHeld bookKept maskOk bookHeadOk rowsOk bookFault lessMask bookWithin keptBefore withdrawnBook droppedStates maskFault dropRoom alike lentFault previewFault bytesOf plantP plantMay bookP lostRow bookM1 bookM9
+marked-previews =
+    record {
+      none = record { accepted = refl; short = refl; drops-are = refl; kept-is = refl };
+      all = record { accepted = refl; short = refl; drops-are = refl; kept-is = refl };
+      not-made = record { accepted = refl; short = refl; drops-are = refl; kept-is = refl };
+      no-move = refl;
       unlike = refl;
     }

@@ -1,10 +1,10 @@
--- Demands 2 and 3, and what requests (i) and (ii) say of the books written and of drop lists, stated: these records are
--- what the product claims of its books. The proofs are in crate demands.
+-- Demands 2 and 3, and what requests (i), (ii) and (iv) say of the books written and of drop lists, stated: these
+-- records are what the product claims of its books. The proofs are in crate demands.
 use mathlib.Core.Path.{_≡_}
 use mathlib.Core.Logic.{_↔_}
 use mathlib.Core.Bool.{true, false}
 use mathlib.Core.List.{List}
-use Prim.Native.Nat.{ℕ, _≤_, _<_}
+use Prim.Native.Nat.{ℕ, _+_, _≤_, _<_}
 use lib.ListN.{length, getD}
 use Rattle.statements.specs.Sets.{bit, lowest, isIn}
 use Rattle.statements.specs.Plants.{word, Plant, plantOf, allowed, ends, available}
@@ -99,6 +99,10 @@ pub record Demand-2 : Type 0 where
       ((x < plantOf s .states) × (isLost b x ≡ false) × (isLost after x ≡ true))
   -- by rising number, as request (ii) says, and so each once
   pub rising : (b after : List ℕ) → Rising (droppedStates b after)
+  -- the states dropped and those still kept are together those kept before
+  pub adds-up : (s b : List ℕ) (gone room drops : ℕ) → withdrawFault s b gone room drops ≡ 0 →
+      let after = withdrawnBook (plantOf s) b gone in
+      length (droppedStates b after) + bookCount after ≡ bookCount b
 
 -- demand 3: after any list of calls that follows an accepted make
 pub record Demand-3 : Type 0 where

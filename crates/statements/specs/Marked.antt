@@ -1,12 +1,12 @@
--- The marked examples M1 to M11 of document 01 as one table, and a second one for request (i). Plants and books are
--- written as their two-byte numbers.
+-- The marked examples M1 to M11 of document 01 as one table, and one each for requests (i) and (iv). Plants and books
+-- are written as their two-byte numbers.
 use mathlib.Core.Path.{_≡_}
 use mathlib.Core.List.{List, [], _∷_, _++_}
 use Prim.Native.Nat.{ℕ, _-_}
 use Rattle.statements.specs.Plants.{plantOf}
-use Rattle.statements.specs.Books.{bytesOf, waitAt, moveAt, nextGoal, goodMoves, madeBook}
+use Rattle.statements.specs.Books.{bytesOf, bookCount, waitAt, moveAt, nextGoal, goodMoves, madeBook}
 use Rattle.statements.specs.Books.{withdrawnBook, droppedStates}
-use Rattle.statements.specs.Calls.{makeFault, withdrawFault, consultFault, movesFault}
+use Rattle.statements.specs.Calls.{makeFault, withdrawFault, previewFault, consultFault, movesFault}
 
 -- strip plant P: header, labels 3 1 5 0, then the eight arrows
 unfoldable pub plantP : List ℕ
@@ -106,3 +106,20 @@ pub record Marked-moves : Type 0 where
   pub no-state : movesFault plantP bookM1 4 0 ≡ 8
   pub no-goal : movesFault plantP bookM1 3 2 ≡ 8
   pub unlike : movesFault plantMay bookM1 4 0 ≡ 4
+
+-- previewing the withdrawal of a mask from a book for P is accepted with a drop buffer of just 8 bytes, names these
+-- states and this K
+pub record Costs (b : List ℕ) (gone : ℕ) (dropped : List ℕ) (kept : ℕ) : Type 0 where
+  pub accepted : previewFault plantP b gone 8 ≡ 0
+  pub short : previewFault plantP b gone 7 ≡ 7
+  pub drops-are : droppedStates b (withdrawnBook (plantOf plantP) b gone) ≡ dropped
+  pub kept-is : bookCount (withdrawnBook (plantOf plantP) b gone) ≡ kept
+
+pub record Marked-previews : Type 0 where
+  -- of M2, of M3 and of M9, a book that nobody made
+  pub none : Costs bookM1 4 [] 3
+  pub all : Costs bookM1 1 (0 ∷ 1 ∷ 2 ∷ []) 0
+  pub not-made : Costs bookM9 0 (0 ∷ 2 ∷ []) 0
+  -- refused: a mask with a move past the last, before it a book for another plant, both before a short buffer
+  pub no-move : previewFault plantP bookM1 8 7 ≡ 6
+  pub unlike : previewFault plantMay bookM1 8 7 ≡ 4

@@ -4,7 +4,8 @@ use Prim.Native.Nat.{_≤_}
 use native.Mathlib.Omega.{arith}
 use lib.ListN.{length}
 use lib.Seq.{length-take-le}
-use Rattle.reply.proofs.Steps.{long-most, parts-ready}
+use Rattle.decoding.proofs.Faults.{long-few}
+use Rattle.reply.proofs.Steps.{parts-ready}
 use borrow.Author.Needs.{needs}
 use Rattle.reply.proofs.reply_masks.Statement.{statement}
 use Rattle.reply.proofs.reply_masks.Tie as tie
@@ -26,13 +27,13 @@ first-within : (c : tie.After-drop-buffer)
     → c .before .before .before .book-long .result ≤ length (c .before .before .book-buffer .result)
 first-within c =
     let k = c .before .before .before in
-    omega (arith, k .book-long .ensures, long-most _ (k .before .before .before .before .pre .0))
+    omega (arith, k .book-long .ensures, long-few _ (k .before .before .before .before .pre .0))
 
 second-within : (c : tie.After-drop-buffer)
     → c .before .before .before .book-long .result ≤ length (c .before .book-buffer2 .result)
 second-within c =
     let k = c .before .before .before in
-    omega (arith, k .book-long .ensures, long-most _ (k .before .before .before .before .pre .0))
+    omega (arith, k .book-long .ensures, long-few _ (k .before .before .before .before .pre .0))
 
 array-borrow-prefix-book : tie.Need-array-borrow-prefix-book
 array-borrow-prefix-book c = first-within c
