@@ -12,11 +12,12 @@
  *   2  a label has a bit above bit N
  *   3  an arrow's state or move is out of range, or the arrows do not strictly ascend
  *   4  the book is under 16 bytes, its S, U or N is out of range, an offset or the length is wrong, its mask has a bit
- *      at U or above, or book_len differs from the length; in withdraw and moves also S, U or N unlike the plant's
+ *      at U or above, or book_len differs from the length; in withdraw, preview and moves also S, U or N unlike the
+ *      plant's
  *   5  a row is neither wholly lost nor with every wait at most 1,023 and every move in the book's mask, or K is not
  *      the number of rows that are not lost
  *   6  the mask given has a bit at U or above
- *   7  the book buffer is under 16 + 4SN bytes, or the drop buffer under 2S
+ *   7  the book buffer is under 16 + 4SN bytes, or the drop buffer under 2S; preview has the drop buffer alone
  *   8  the state is not below S, or the goal not below N
  *
  * Buffers must not overlap: neither each other nor what is lent for reading. A buffer that is lent for writing keeps
@@ -43,6 +44,13 @@ typedef struct {
     uint32_t length; /* bytes of the book written, from the buffer's first byte on */
     uint32_t drops;  /* states dropped, two bytes each, from the drop buffer's first byte on; 0 in make */
 } planbook_answer;
+
+/* What preview answers. */
+typedef struct {
+    uint32_t number; /* 0, or why it was refused */
+    uint32_t drops;  /* states that would be dropped, two bytes each, from the drop buffer's first byte on */
+    uint32_t kept;   /* states that would be kept: K of the book that withdraw would write */
+} planbook_cost;
 
 /* What consult answers. */
 typedef struct {
@@ -76,6 +84,14 @@ planbook_answer planbook_make(const uint8_t *plant, size_t plant_len, uint32_t m
  */
 planbook_answer planbook_withdraw(const uint8_t *plant, size_t plant_len, const uint8_t *book, size_t book_len,
                                   uint32_t mask, uint8_t *out, size_t out_len, uint8_t *drops, size_t drops_len);
+
+/*
+ * What a lock-out would cost, before it is done: withdraws nothing and writes no book. The number dropped, the states
+ * written to drops and K afterwards are those that withdraw would give for the same plant, book and mask, and drops and
+ * kept add up to K of the book handed in. It is refused as withdraw is, but asks for no book buffer. Refusals 1 to 7.
+ */
+planbook_cost planbook_preview(const uint8_t *plant, size_t plant_len, const uint8_t *book, size_t book_len,
+                               uint32_t mask, uint8_t *drops, size_t drops_len);
 
 /* What to do in a state when a goal is sought. Refusals 4, 5, 8. */
 planbook_advice planbook_consult(const uint8_t *book, size_t book_len, uint32_t state, uint32_t goal);

@@ -1,5 +1,5 @@
 /*
- * How much stack the calls take: all five run on a stack of their own that is painted first, and what they overwrote is
+ * How much stack the calls take: all six run on a stack of their own that is painted first, and what they overwrote is
  * counted. Prints the figure; fails at 256 KiB or more. The plant is the largest there is.
  */
 #include <stdio.h>
@@ -35,9 +35,10 @@ static void build(void) {
 
 static void calls(void) {
     planbook_answer made = planbook_make(plant, sizeof plant, 0xFFFFFFFFu, book, sizeof book);
+    planbook_cost cost = planbook_preview(plant, sizeof plant, book, made.length, 1, drops, sizeof drops);
     planbook_answer gone =
         planbook_withdraw(plant, sizeof plant, book, made.length, 1, out, sizeof out, drops, sizeof drops);
-    refusals += made.number + gone.number;
+    refusals += made.number + cost.number + gone.number;
     refusals += planbook_consult(out, gone.length, 1023, 7).number + planbook_row(out, gone.length, 1023).number;
     refusals += planbook_moves(plant, sizeof plant, out, gone.length, 1023, 7).number;
 }

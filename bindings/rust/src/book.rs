@@ -1,15 +1,10 @@
-//! The safe wrapper: the five calls over slices, and a book that owns its bytes.
+//! The safe wrapper: the six calls over slices, and a book that owns its bytes.
 
 use std::sync::Arc;
 
 use crate::calls::{Calls, Linked};
+use crate::sys::{LONGEST_BOOK, LONGEST_LIST};
 use crate::Refusal;
-
-/// The longest book: 16 + 4SN bytes for S 1,024 and N 8.
-const LONGEST_BOOK: usize = 16 + 4 * 1024 * 8;
-
-/// The most bytes of a list of dropped states: 2S for S 1,024.
-const LONGEST_LIST: usize = 2 * 1024;
 
 /// Both places of an entry of a lost state.
 const LOST: u16 = u16::MAX;
@@ -37,6 +32,24 @@ pub struct Withdrawn {
     pub length: usize,
     /// How many two-byte numbers of the drop buffer are the states dropped, by rising number.
     pub drops: usize,
+}
+
+/// What a withdrawal would cost.
+#[derive(Clone, Copy, Debug, PartialEq, Eq)]
+pub struct Cost {
+    /// How many two-byte numbers of the drop buffer are the states that would be dropped, by rising number.
+    pub drops: usize,
+    /// How many states would be kept.
+    pub kept: usize,
+}
+
+/// What a withdrawal from a [`Book`] would cost.
+#[derive(Clone, Debug, PartialEq, Eq)]
+pub struct Preview {
+    /// The states that would be dropped, by rising number.
+    pub dropped: Vec<u16>,
+    /// How many states would be kept.
+    pub kept: u16,
 }
 
 /// An entry of a kept state's row.
@@ -92,6 +105,26 @@ pub fn withdraw_into(
     let answer = Linked.withdraw(plant, book, mask, out, drops);
     accepted(answer.number)?;
     Ok(Withdrawn { length: answer.length as usize, drops: answer.drops as usize })
+}
+
+/// What it would cost to withdraw the moves of `mask` from `book`: writes the states that this would drop to the start
+/// of `drops`, just as [`withdraw_into`] would, and counts those that would be kept. No book is written, and no room
+/// for one is needed. Bytes past the list stay. A refused call writes nothing.
+///
+/// ```
+/// let plant = planbook::plants::strip().bytes();
+/// let (mut book, mut drops) = ([0; 48], [9; 8]);
+/// planbook::make_into(&plant, 0b111, &mut book)?;
+/// let cost = planbook::preview_into(&plant, &book, 0b001, &mut drops)?;
+/// assert_eq!((cost.drops, cost.kept), (3, 0));
+/// assert_eq!(drops, [0, 0, 1, 0, 2, 0, 9, 9]); // states 0, 1 and 2, and what stood past them
+/// assert_eq!(planbook::preview_into(&plant, &book, 0b001, &mut drops[..7]), Err(planbook::Refusal::Buffer));
+/// # Ok::<(), planbook::Refusal>(())
+/// ```
+pub fn preview_into(plant: &[u8], book: &[u8], mask: u32, drops: &mut [u8]) -> Result<Cost, Refusal> {
+    let answer = Linked.preview(plant, book, mask, drops);
+    accepted(answer.number)?;
+    Ok(Cost { drops: answer.drops as usize, kept: answer.kept as usize })
 }
 
 /// What the book says for a state and the goal sought.
@@ -202,8 +235,8 @@ impl Book {
     /// # Ok::<(), Refusal>(())
     /// ```
     pub fn from_bytes(plant: &[u8], bytes: &[u8]) -> Result<Book, Refusal> {
-        // To withdraw nothing checks all that there is to check.
-        withdraw_into(plant, bytes, 0, &mut vec![0; LONGEST_BOOK], &mut [0; LONGEST_LIST])?;
+        // To look at what withdrawing nothing costs checks all that there is to check.
+        preview_into(plant, bytes, 0, &mut [0; LONGEST_LIST])?;
         Ok(Book { plant: plant.into(), bytes: bytes.into() })
     }
 
@@ -214,8 +247,25 @@ impl Book {
         let mut list = [0; LONGEST_LIST];
         let written = withdraw_into(&self.plant, &self.bytes, mask, &mut bytes, &mut list)?;
         bytes.truncate(written.length);
-        let dropped = list[..2 * written.drops].chunks_exact(2).map(|pair| number(pair, 0)).collect();
-        Ok((Book { plant: self.plant.clone(), bytes }, dropped))
+        Ok((Book { plant: self.plant.clone(), bytes }, listed(&list, written.drops)))
+    }
+
+    /// What it would cost to withdraw the moves of `mask`: the states that [`Book::withdraw`] would drop, and how many
+    /// would be kept. Nothing is withdrawn.
+    ///
+    /// ```
+    /// use planbook::{Book, Preview};
+    ///
+    /// let plant = planbook::plants::strip().bytes();
+    /// let book = Book::make(&plant, 0b111)?;
+    /// assert_eq!(book.preview(0b100)?, Preview { dropped: vec![], kept: 3 }); // move 2 may go
+    /// assert_eq!(book.preview(0b001)?, Preview { dropped: vec![0, 1, 2], kept: 0 }); // without move 0 all is lost
+    /// # Ok::<(), planbook::Refusal>(())
+    /// ```
+    pub fn preview(&self, mask: u32) -> Result<Preview, Refusal> {
+        let mut list = [0; LONGEST_LIST];
+        let cost = preview_into(&self.plant, &self.bytes, mask, &mut list)?;
+        Ok(Preview { dropped: listed(&list, cost.drops), kept: cost.kept as u16 })
     }
 
     /// What the book says for a state and the goal sought.
@@ -287,6 +337,11 @@ impl Book {
     pub fn plant(&self) -> &[u8] {
         &self.plant
     }
+}
+
+/// The first `count` numbers of a drop list.
+fn listed(list: &[u8], count: usize) -> Vec<u16> {
+    list.chunks_exact(2).take(count).map(|pair| number(pair, 0)).collect()
 }
 
 /// The two-byte number at a place.

@@ -1,10 +1,10 @@
-//! The five calls over slices, with the C interface's answers: one trait that the proved library and each second
+//! The six calls over slices, with the C interface's answers: one trait that the proved library and each second
 //! solver implement, so that tests and benchmarks treat them alike.
 
-use crate::sys::{Advice, Answer, Mask, Part};
+use crate::sys::{Advice, Answer, Cost, Mask, Part};
 
-/// A planner: make, withdraw, consult and row as document 01 has them, and moves as request (i) of document 02 does, on
-/// raw bytes.
+/// A planner: make, withdraw, consult and row as document 01 has them, and moves and preview as requests (i) and (iv)
+/// of document 02 do, on raw bytes.
 pub trait Calls {
     /// A short name for tables and messages.
     fn name(&self) -> &'static str;
@@ -15,6 +15,10 @@ pub trait Calls {
     /// Writes the book without the moves of `mask` to the start of `out`, and to the start of `drops` the states kept
     /// in `book` and lost now, as two-byte numbers.
     fn withdraw(&self, plant: &[u8], book: &[u8], mask: u32, out: &mut [u8], drops: &mut [u8]) -> Answer;
+
+    /// What it would cost to withdraw the moves of `mask`: writes to the start of `drops` what withdraw would, and no
+    /// book.
+    fn preview(&self, plant: &[u8], book: &[u8], mask: u32, drops: &mut [u8]) -> Cost;
 
     /// What the book says for a state and the goal sought.
     fn consult(&self, book: &[u8], state: u32, goal: u32) -> Advice;
@@ -54,6 +58,21 @@ impl Calls for Linked {
                 mask,
                 out.as_mut_ptr(),
                 out.len(),
+                drops.as_mut_ptr(),
+                drops.len(),
+            )
+        }
+    }
+
+    fn preview(&self, plant: &[u8], book: &[u8], mask: u32, drops: &mut [u8]) -> Cost {
+        // SAFETY: each pointer and length is a slice's own, and `drops` is borrowed alone.
+        unsafe {
+            crate::sys::planbook_preview(
+                plant.as_ptr(),
+                plant.len(),
+                book.as_ptr(),
+                book.len(),
+                mask,
                 drops.as_mut_ptr(),
                 drops.len(),
             )

@@ -7,7 +7,8 @@
 use std::fmt::Debug;
 
 use crate::calls::Calls;
-use crate::sys::{Advice, Answer, Mask, Part};
+use crate::second::format::number;
+use crate::sys::{Advice, Answer, Cost, Mask, Part, LONGEST_BOOK};
 
 pub mod rounds;
 
@@ -24,6 +25,8 @@ pub struct Comparison<'a> {
     mixed: u64,
     /// Withdrawals that drop some states and keep others.
     partial: u64,
+    /// Previews of such withdrawals.
+    previewed: u64,
     /// Sets of good moves that leave a choice.
     choices: u64,
 }
@@ -49,7 +52,7 @@ impl Buffer {
 impl<'a> Comparison<'a> {
     /// Compares two planners.
     pub fn new(ours: &'a dyn Calls, second: &'a dyn Calls) -> Comparison<'a> {
-        Comparison { ours, second, calls: 0, refused: 0, mixed: 0, partial: 0, choices: 0 }
+        Comparison { ours, second, calls: 0, refused: 0, mixed: 0, partial: 0, previewed: 0, choices: 0 }
     }
 
     /// How many calls were compared.
@@ -60,11 +63,11 @@ impl<'a> Comparison<'a> {
     /// What was compared so far, in words.
     pub fn summary(&self) -> String {
         let [ours, second] = [self.ours, self.second].map(|planner| planner.name());
-        let Comparison { calls, refused, mixed, partial, choices, .. } = self;
+        let Comparison { calls, refused, mixed, partial, previewed, choices, .. } = self;
         format!(
             "{ours} and {second} do not differ in {calls} calls, of which {refused} are refused, {mixed} write a book \
-             with kept and lost states, {partial} drop some states and keep others, and {choices} find more than one \
-             good move"
+             with kept and lost states, {partial} drop some states and keep others, {previewed} preview that, and \
+             {choices} find more than one good move"
         )
     }
 
@@ -82,10 +85,7 @@ impl<'a> Comparison<'a> {
 
     /// Compares a withdrawal with buffers of these lengths, and hands back the answer and the book, empty if refused.
     pub fn withdraw(&mut self, plant: &[u8], book: &[u8], mask: u32, lengths: [usize; 2]) -> (Answer, Vec<u8>) {
-        let input = || {
-            let [book, plant] = [hex(book), hex(plant)];
-            format!("withdraw, mask {mask:#x}, buffers {lengths:?}, book {book}, plant {plant}")
-        };
+        let input = || format!("withdraw, mask {mask:#x}, buffers {lengths:?}, {}", both(plant, book));
         let before = [plant.to_vec(), book.to_vec()];
         let mut books = [(); 2].map(|()| Buffer::new(lengths[0], self.calls));
         let mut lists = [(); 2].map(|()| Buffer::new(lengths[1], self.calls));
@@ -95,10 +95,43 @@ impl<'a> Comparison<'a> {
             self.second.withdraw(plant, book, mask, second.lent(), second_list.lent()),
         ];
         self.same_answer(answers, &input);
-        self.same_bytes("plant", plant, &before[0], &input);
-        self.same_bytes("book", book, &before[1], &input);
-        self.same_bytes("drop buffer", &lists[0].bytes, &lists[1].bytes, &input);
+        self.only_read([plant, book], before, &input);
+        self.same_buffers("drop buffer", &lists, answers[0].number, &input);
         self.written(books, answers[0], &input)
+    }
+
+    /// Compares a preview with a drop buffer of this length, and hands back the answer. It must be what the withdrawal
+    /// gives.
+    pub fn preview(&mut self, plant: &[u8], book: &[u8], mask: u32, length: usize) -> Cost {
+        let input = || format!("preview, mask {mask:#x}, buffer {length}, {}", both(plant, book));
+        let before = [plant.to_vec(), book.to_vec()];
+        let mut lists = [(); 2].map(|()| Buffer::new(length, self.calls));
+        let [ours, second] = &mut lists;
+        let costs =
+            [self.ours.preview(plant, book, mask, ours.lent()), self.second.preview(plant, book, mask, second.lent())];
+        self.same_answer(costs, &input);
+        self.only_read([plant, book], before, &input);
+        self.same_buffers("drop buffer", &lists, costs[0].number, &input);
+        let alone = || format!("{} alone, with its withdrawal second: {}", self.ours.name(), input());
+        let (withdrawn, list) = self.withdrawn(plant, book, mask, length);
+        self.same_answer([costs[0], withdrawn], &alone);
+        self.same_bytes("drop buffer", &lists[0].bytes, &list.bytes, &alone);
+        match costs[0].number {
+            0 => self.same_answer([costs[0].drops + costs[0].kept, kept_count(book)], &alone),
+            number => self.same_answer([costs[0], Cost::refused(number)], &alone),
+        }
+        self.count(costs[0].number);
+        self.previewed += u64::from(costs[0].kept != 0 && costs[0].drops != 0);
+        costs[0]
+    }
+
+    /// What a preview must answer and leave in a drop buffer of this length: what the same planner's withdrawal does,
+    /// with room for any book, and K of the book that it writes.
+    fn withdrawn(&self, plant: &[u8], book: &[u8], mask: u32, length: usize) -> (Cost, Buffer) {
+        let mut out = vec![0; LONGEST_BOOK];
+        let mut list = Buffer::new(length, self.calls);
+        let Answer { number, drops, .. } = self.ours.withdraw(plant, book, mask, &mut out, list.lent());
+        (Cost { number, drops, kept: kept_count(&out) }, list)
     }
 
     /// Compares a consult, and hands back the advice.
@@ -122,15 +155,11 @@ impl<'a> Comparison<'a> {
 
     /// Compares the call for every good move, and hands back the answer.
     pub fn moves(&mut self, plant: &[u8], book: &[u8], state: u32, goal: u32) -> Mask {
-        let input = || {
-            let [book, plant] = [hex(book), hex(plant)];
-            format!("moves, state {state}, goal {goal}, book {book}, plant {plant}")
-        };
+        let input = || format!("moves, state {state}, goal {goal}, {}", both(plant, book));
         let before = [plant.to_vec(), book.to_vec()];
         let sets = [self.ours, self.second].map(|planner| planner.moves(plant, book, state, goal));
         self.same_answer(sets, &input);
-        self.same_bytes("plant", plant, &before[0], &input);
-        self.same_bytes("book", book, &before[1], &input);
+        self.only_read([plant, book], before, &input);
         self.count(sets[0].number);
         self.choices += u64::from(sets[0].mask.count_ones() > 1);
         sets[0]
@@ -147,20 +176,31 @@ impl<'a> Comparison<'a> {
 
     /// Compares the books in two buffers, bytes beside them included, and hands one back.
     fn written(&mut self, books: [Buffer; 2], answer: Answer, input: &dyn Fn() -> String) -> (Answer, Vec<u8>) {
-        let [mut ours, second] = books;
-        self.same_bytes("book buffer", &ours.bytes, &second.bytes, input);
-        if answer.number != 0 {
-            let before = Buffer::new(ours.length, self.calls);
-            self.same_bytes("book buffer after a refusal", &ours.bytes, &before.bytes, input);
-        }
+        self.same_buffers("book buffer", &books, answer.number, input);
         self.count(answer.number);
+        let [mut ours, _] = books;
         let book = ours.lent()[..answer.length as usize].to_vec();
         if answer.number == 0 {
-            let [states, kept] = [0, 6].map(|at| u16::from_le_bytes([book[at], book[at + 1]]));
+            let (states, kept) = (number(&book, 0).into(), kept_count(&book));
             self.mixed += u64::from(kept != 0 && kept != states);
             self.partial += u64::from(kept != 0 && answer.drops != 0);
         }
         (answer, book)
+    }
+
+    /// The plant and the book, which were lent to read, are as they were.
+    fn only_read(&self, lent: [&[u8]; 2], before: [Vec<u8>; 2], input: &dyn Fn() -> String) {
+        self.same_bytes("plant", lent[0], &before[0], input);
+        self.same_bytes("book", lent[1], &before[1], input);
+    }
+
+    /// Two buffers have the same bytes, those beside them included, and after a refusal those that they had before.
+    fn same_buffers(&self, what: &str, [ours, second]: &[Buffer; 2], number: u32, input: &dyn Fn() -> String) {
+        self.same_bytes(what, &ours.bytes, &second.bytes, input);
+        if number != 0 {
+            let before = Buffer::new(ours.length, self.calls);
+            self.same_bytes(&format!("{what} after a refusal"), &ours.bytes, &before.bytes, input);
+        }
     }
 
     fn same_answer<T: PartialEq + Debug>(&self, [ours, second]: [T; 2], input: &dyn Fn() -> String) {
@@ -186,6 +226,16 @@ impl<'a> Comparison<'a> {
         self.calls += 1;
         self.refused += u64::from(number != 0);
     }
+}
+
+/// K of a book.
+fn kept_count(book: &[u8]) -> u32 {
+    number(book, 6).into()
+}
+
+/// A book and a plant in hex.
+fn both(plant: &[u8], book: &[u8]) -> String {
+    format!("book {}, plant {}", hex(book), hex(plant))
 }
 
 /// Bytes in hex.

@@ -6,8 +6,8 @@
 //! forces the goal. Both are bytes; their formats are in the repository's docs/FORMATS.md.
 //!
 //! With the feature `linked`, which is on by default, [`Book`] and the functions [`make_into`], [`withdraw_into`],
-//! [`consult`], [`row`] and [`good_moves`] call the proved library. They take slices, answer a [`Result`] with a
-//! [`Refusal`], and need no `unsafe` in the caller's code.
+//! [`preview_into`], [`consult`], [`row`] and [`good_moves`] call the proved library. They take slices, answer a
+//! [`Result`] with a [`Refusal`], and need no `unsafe` in the caller's code.
 //!
 #![cfg_attr(feature = "linked", doc = "```")]
 #![cfg_attr(not(feature = "linked"), doc = "```ignore")]
@@ -20,6 +20,10 @@
 //! assert_eq!(book.consult(0, 1)?, Advice::Move { action: 0, wait: 2, seek: 1 });
 //! assert_eq!(book.consult(3, 0)?, Advice::Lost);
 //! assert_eq!(book.good_moves(0, 1)?, 0b011); // move 1 is good there, too
+//!
+//! // A look before a lock-out: to withdraw move 0 would drop all kept states, to withdraw move 2 would drop none.
+//! assert_eq!(book.preview(0b001)?.dropped, [0, 1, 2]);
+//! assert_eq!(book.preview(0b100)?.kept, 3);
 //!
 //! // Move 2 goes out of service: the way from state 1 to goal 0 gets longer, and no state is dropped.
 //! let (book, dropped) = book.withdraw(0b100)?;
@@ -47,4 +51,6 @@ pub use refusal::Refusal;
 #[cfg(feature = "linked")]
 mod book;
 #[cfg(feature = "linked")]
-pub use book::{consult, good_moves, make_into, row, withdraw_into, Advice, Book, Entry, Withdrawn};
+pub use book::{consult, good_moves, make_into, preview_into, row, withdraw_into};
+#[cfg(feature = "linked")]
+pub use book::{Advice, Book, Cost, Entry, Preview, Withdrawn};

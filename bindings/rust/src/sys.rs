@@ -1,7 +1,14 @@
-//! The C interface as it is declared in `include/planbook.h`: its answers, and with the feature `linked` its five
-//! functions. The functions are unsafe to call; [`crate::make_into`] and its neighbours are the safe way.
+//! The C interface as it is declared in `include/planbook.h`: the longest buffers, its answers, and with the feature
+//! `linked` its six functions. The functions are unsafe to call; [`crate::make_into`] and its neighbours are the safe
+//! way.
 //!
 //! A refused answer has its number and 0 in every other field, and so has a lost one beside its `lost`.
+
+/// The longest book: 16 + 4SN bytes for S 1,024 and N 8 (`PLANBOOK_BOOK_MAX` in C).
+pub const LONGEST_BOOK: usize = 16 + 4 * 1024 * 8;
+
+/// The most bytes of a list of dropped states: 2S for S 1,024 (`PLANBOOK_DROPS_MAX` in C).
+pub const LONGEST_LIST: usize = 2 * 1024;
 
 /// What make and withdraw answer.
 #[repr(C)]
@@ -13,6 +20,18 @@ pub struct Answer {
     pub length: u32,
     /// How many states the drop buffer lists. Always 0 for make.
     pub drops: u32,
+}
+
+/// What preview answers.
+#[repr(C)]
+#[derive(Clone, Copy, Debug, Default, PartialEq, Eq)]
+pub struct Cost {
+    /// 0, or the number of the refusal.
+    pub number: u32,
+    /// How many states the drop buffer lists: those that the withdrawal would drop.
+    pub drops: u32,
+    /// How many states would be kept: K of the book that the withdrawal would write.
+    pub kept: u32,
 }
 
 /// What consult answers.
@@ -63,7 +82,7 @@ macro_rules! refused {
         }
     )*};
 }
-refused!(Answer, Advice, Part, Mask);
+refused!(Answer, Cost, Advice, Part, Mask);
 
 #[cfg(feature = "linked")]
 extern "C" {
@@ -89,6 +108,21 @@ extern "C" {
         drops: *mut u8,
         drops_len: usize,
     ) -> Answer;
+
+    /// Writes the states that a withdrawal of the moves of `mask` would drop, and no book.
+    ///
+    /// # Safety
+    /// Each pointer is good for its length, to read (`plant`, `book`) or to write (`drops`), and `drops` does not
+    /// overlap with any other.
+    pub fn planbook_preview(
+        plant: *const u8,
+        plant_len: usize,
+        book: *const u8,
+        book_len: usize,
+        mask: u32,
+        drops: *mut u8,
+        drops_len: usize,
+    ) -> Cost;
 
     /// The move, the wait and the next goal for a state and the goal sought.
     ///

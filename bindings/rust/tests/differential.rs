@@ -20,6 +20,8 @@ fn documents_01_and_02() {
     document::marked_examples(&Linked);
     document::further_examples(&Linked);
     document::drop_lists(&Linked);
+    document::previews(&Linked);
+    document::previews_of_the_longest(&Linked);
     document::good_moves(&Linked);
     document::good_moves_of_the_longest(&Linked);
     document::refusals(&Linked);
@@ -28,6 +30,11 @@ fn documents_01_and_02() {
 #[test]
 fn drop_lists_are_read_from_the_books() {
     promises::drop_lists_are_read_from_the_books(&Linked);
+}
+
+#[test]
+fn previews_come_true() {
+    promises::previews_come_true(&Linked);
 }
 
 #[test]

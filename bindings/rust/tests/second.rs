@@ -16,6 +16,7 @@ fn marked_examples() {
     for planner in [&Brute as &dyn Calls, &Plain, &Fast] {
         document::marked_examples(planner);
         document::further_examples(planner);
+        document::previews(planner);
         document::good_moves(planner);
     }
 }
@@ -48,6 +49,7 @@ fn refusals_and_limits() {
     for planner in [&Plain as &dyn Calls, &Fast] {
         document::refusals(planner);
         document::drop_lists(planner);
+        document::previews_of_the_longest(planner);
         document::good_moves_of_the_longest(planner);
     }
 }
@@ -55,11 +57,13 @@ fn refusals_and_limits() {
 #[test]
 fn promises() {
     promises::drop_lists_are_read_from_the_books(&Fast);
+    promises::previews_come_true(&Fast);
     promises::sets_are_those_of_the_rule(&Fast);
     promises::picks_serve(&Fast);
 }
 
-/// Tiny plants, with every mask, and every withdrawal from what is made: brute force, sweeps and worklist agree.
+/// Tiny plants, with every mask, every withdrawal from what is made, and the preview of move 0: brute force, sweeps and
+/// worklist agree.
 #[test]
 fn brute_force_agrees_on_tiny_plants() {
     let mut brute = Comparison::new(&Brute, &Fast);
@@ -87,6 +91,8 @@ fn brute_force_agrees_on_tiny_plants() {
                     brute.withdraw(&plant, &book, withdrawn, lengths);
                     plain.withdraw(&plant, &book, withdrawn, lengths);
                 }
+                brute.preview(&plant, &book, 1, lengths[1]);
+                plain.preview(&plant, &book, 1, lengths[1]);
             }
         }
     }

@@ -2,7 +2,8 @@
 
 #![deny(warnings)]
 
-use planbook::{consult, good_moves, make_into, plants, row, withdraw_into, Advice, Book, Entry, Refusal, Withdrawn};
+use planbook::{consult, good_moves, make_into, plants, preview_into, row, withdraw_into};
+use planbook::{Advice, Book, Cost, Entry, Preview, Refusal, Withdrawn};
 
 #[test]
 fn a_book_owns_its_bytes_and_the_plant() {
@@ -51,13 +52,32 @@ fn withdrawals_in_turn_and_at_once_agree() {
 }
 
 #[test]
+fn a_book_shows_what_a_lock_out_costs() {
+    let plant = plants::strip().bytes();
+    let book = Book::make(&plant, 7).expect("P is a plant");
+    let cost = |dropped: &[u16], kept| Ok(Preview { dropped: dropped.to_vec(), kept });
+    assert_eq!((book.preview(4), book.preview(2), book.preview(0)), (cost(&[], 3), cost(&[], 3), cost(&[], 3)));
+    assert_eq!((book.preview(1), book.preview(7)), (cost(&[0, 1, 2], 0), cost(&[0, 1, 2], 0)));
+    assert_eq!((book.preview(8), book.preview(1 << 31)), (Err(Refusal::Mask), Err(Refusal::Mask)));
+    assert_eq!(book, Book::make(&plant, 7).expect("P is a plant")); // nothing is withdrawn by looking
+
+    // A ladder from state 512 on, all of which is lost without its highest move, beside a ring that stays kept.
+    let model = plants::Family::LadderRing.build(1024, 1);
+    let book = Book::make(&model.bytes(), model.every_move()).expect("a plant");
+    let expected = cost(&(512..1024).collect::<Vec<u16>>(), 512);
+    assert_eq!((book.kept_count(), book.preview(model.highest_move())), (1024, expected));
+}
+
+/// The bytes with one changed.
+fn changed(bytes: &[u8], at: usize, value: u8) -> Vec<u8> {
+    let mut bytes = bytes.to_vec();
+    bytes[at] = value;
+    bytes
+}
+
+#[test]
 fn every_refusal_has_its_name() {
     let plant = plants::strip().bytes();
-    let changed = |bytes: &[u8], at: usize, value: u8| {
-        let mut bytes = bytes.to_vec();
-        bytes[at] = value;
-        bytes
-    };
     let made = |plant: &[u8], mask| Book::make(plant, mask).map(|book| book.kept_count());
     assert_eq!(made(&plant[..15], 7), Err(Refusal::PlantHeader));
     assert_eq!(made(&changed(&plant, 16, 8), 7), Err(Refusal::PlantLabel));
@@ -82,4 +102,20 @@ fn every_refusal_has_its_name() {
     let (mut out, mut drops) = ([0; 48], [0; 8]);
     assert_eq!(withdraw_into(&plant, &book, 4, &mut out, &mut drops[..7]), Err(Refusal::Buffer));
     assert_eq!(withdraw_into(&plant, &book, 4, &mut out, &mut drops), Ok(Withdrawn { length: 48, drops: 0 }));
+}
+
+#[test]
+fn every_refusal_of_a_preview_has_its_name() {
+    let plant = plants::strip().bytes();
+    let (mut book, mut drops) = ([0; 48], [0; 8]);
+    assert_eq!(make_into(&plant, 7, &mut book), Ok(48));
+    let mut preview = |plant: &[u8], book: &[u8], mask, length| preview_into(plant, book, mask, &mut drops[..length]);
+    assert_eq!(preview(&plant[..71], &book, 4, 8), Err(Refusal::PlantHeader));
+    assert_eq!(preview(&changed(&plant, 16, 8), &book, 4, 8), Err(Refusal::PlantLabel));
+    assert_eq!(preview(&changed(&plant, 70, 4), &book, 4, 8), Err(Refusal::PlantArrow));
+    assert_eq!(preview(&changed(&plant, 2, 4), &book, 4, 8), Err(Refusal::BookHeader)); // a plant with another move
+    assert_eq!(preview(&plant, &changed(&book, 6, 2), 4, 8), Err(Refusal::BookRow));
+    assert_eq!(preview(&plant, &book, 8, 8), Err(Refusal::Mask));
+    assert_eq!(preview(&plant, &book, 4, 7), Err(Refusal::Buffer));
+    assert_eq!(preview(&plant, &book, 4, 8), Ok(Cost { drops: 0, kept: 3 }));
 }

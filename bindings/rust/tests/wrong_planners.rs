@@ -6,9 +6,9 @@ use std::panic::{catch_unwind, set_hook, take_hook, AssertUnwindSafe};
 
 use planbook::calls::Calls;
 use planbook::compare::{rounds, Comparison};
-use planbook::second::format::{in_mask, BookView, Plant};
+use planbook::second::format::{in_mask, number, BookView, Plant};
 use planbook::second::{Fast, Solve, Table};
-use planbook::sys::{Advice, Answer, Mask, Part};
+use planbook::sys::{Advice, Answer, Cost, Mask, Part};
 
 /// A planner that remakes the book and ignores the one handed in.
 struct Remake;
@@ -63,12 +63,16 @@ impl Solve for ShortWaits {
 /// The good moves of a kept state for a goal, by some rule.
 type Rule = fn(&Plant, &BookView, usize, usize) -> u32;
 
-/// A planner with a rule of its own for the good moves, and a drop list of which it makes what it likes; all else is
-/// right.
+/// What a preview answers and writes: from the plant, the book, the mask and the drop buffer.
+type Look = fn(&[u8], &[u8], u32, &mut [u8]) -> Cost;
+
+/// A planner with a rule of its own for the good moves, a drop list of which it makes what it likes, and a preview of
+/// its own; all else is right.
 struct Own {
     name: &'static str,
     rule: Rule,
     list: fn(&mut [[u8; 2]]),
+    look: Look,
 }
 
 impl Calls for Own {
@@ -87,6 +91,10 @@ impl Calls for Own {
         (self.list)(&mut numbers);
         part.copy_from_slice(&numbers.concat());
         answer
+    }
+
+    fn preview(&self, plant: &[u8], book: &[u8], mask: u32, drops: &mut [u8]) -> Cost {
+        (self.look)(plant, book, mask, drops)
     }
 
     fn consult(&self, book: &[u8], state: u32, goal: u32) -> Advice {
@@ -123,11 +131,12 @@ fn rule<'a>(book: &'a BookView, state: usize, goal: usize) -> impl Fn(usize) -> 
     move |end| book.is_kept(end) && (wait == 0 || book.entry(end, goal).0 < wait)
 }
 
-/// The rule of document 02, and drop lists as they are.
+/// The rule of document 02, and drop lists and previews as they are.
 const RIGHT: Own = Own {
     name: "right",
     rule: |plant, book, state, goal| all_into(plant, book.mask, state, rule(book, state, goal)),
     list: |_| {},
+    look: |plant, book, mask, drops| Fast.preview(plant, book, mask, drops),
 };
 
 const fn wrong_rule(name: &'static str, rule: Rule) -> Own {
@@ -136,6 +145,15 @@ const fn wrong_rule(name: &'static str, rule: Rule) -> Own {
 
 const fn wrong_list(name: &'static str, list: fn(&mut [[u8; 2]])) -> Own {
     Own { name, list, ..RIGHT }
+}
+
+const fn wrong_look(name: &'static str, look: Look) -> Own {
+    Own { name, look, ..RIGHT }
+}
+
+/// The moves in service in a book.
+fn in_service(book: &[u8]) -> u32 {
+    BookView::read(book, None).expect("a book").mask
 }
 
 /// Planners with one fault each in the rule or in the drop list.
@@ -162,9 +180,42 @@ const WRONG: [Own; 9] = [
     wrong_list("the last dropped state first", |list| list.rotate_right(usize::from(!list.is_empty()))),
 ];
 
+/// Planners with one fault each in the preview alone.
+const WRONG_LOOKS: [Own; 7] = [
+    wrong_look("the old K", |plant, book, mask, drops| {
+        let right = Fast.preview(plant, book, mask, drops);
+        Cost { kept: right.kept + right.drops, ..right }
+    }),
+    wrong_look("nothing listed", |plant, book, mask, drops| Fast.preview(plant, book, mask, &mut drops.to_vec())),
+    wrong_look("every kept state listed", |plant, book, mask, drops| {
+        let right = Fast.preview(plant, book, mask, drops);
+        if right.number == 0 {
+            // Without any move, every kept state is dropped.
+            Fast.preview(plant, book, in_service(book), drops);
+        }
+        right
+    }),
+    wrong_look("an end mark past the list", |plant, book, mask, drops| {
+        let right = Fast.preview(plant, book, mask, drops);
+        if right.number == 0 {
+            drops[2 * right.drops as usize..].iter_mut().take(2).for_each(|byte| *byte = 0xff);
+        }
+        right
+    }),
+    wrong_look("room for a book asked for", |plant, book, mask, drops| {
+        let lent = if drops.len() < book.len() { 0 } else { drops.len() };
+        Fast.preview(plant, book, mask, &mut drops[..lent])
+    }),
+    wrong_look("K in a refusal", |plant, book, mask, drops| match Fast.preview(plant, book, mask, drops) {
+        Cost { number: 7, .. } => Cost { kept: number(book, 6).into(), ..Cost::refused(7) },
+        right => right,
+    }),
+    wrong_look("the book handed in ignored", |plant, book, mask, drops| Remake.preview(plant, book, mask, drops)),
+];
+
 /// All random rounds, for some calls of each kind.
-fn compare(planner: &dyn Calls) {
-    let mut comparison = Comparison::new(planner, &Fast);
+fn compare(planner: &dyn Calls, second: &dyn Calls) {
+    let mut comparison = Comparison::new(planner, second);
     for (_, round) in rounds::RANDOM_ROUNDS {
         rounds::run(&mut comparison, round, 1, 2_000);
     }
@@ -173,13 +224,17 @@ fn compare(planner: &dyn Calls) {
 #[test]
 fn wrong_planners_are_found() {
     // No difference: what is found of the others is their faults alone.
-    compare(&RIGHT);
+    compare(&RIGHT, &Fast);
     // The differences are wanted: nothing is printed of them.
     set_hook(Box::new(|_| {}));
     let mut found = Vec::new();
     let solvers = [&Remake as &dyn Calls, &AllLost, &MayForMust, &ShortWaits];
-    for wrong in solvers.into_iter().chain(WRONG.iter().map(|planner| planner as &dyn Calls)) {
-        let compared = catch_unwind(AssertUnwindSafe(|| compare(wrong)));
+    let own = WRONG.iter().chain(&WRONG_LOOKS).map(|planner| planner as &dyn Calls);
+    let beside_fast = solvers.into_iter().chain(own).map(|wrong| (wrong, &Fast as &dyn Calls));
+    // Beside itself, a wrong preview shows by its own withdrawal alone.
+    let beside_itself = WRONG_LOOKS.iter().map(|wrong| (wrong as &dyn Calls, wrong as &dyn Calls));
+    for (wrong, second) in beside_fast.chain(beside_itself) {
+        let compared = catch_unwind(AssertUnwindSafe(|| compare(wrong, second)));
         let message = compared.map_err(|payload| *payload.downcast::<String>().expect("a message"));
         found.push((wrong.name(), message.expect_err("a difference")));
     }

@@ -2,9 +2,13 @@
 //! in one run on the same plants.
 //!
 //! A time is the least CPU time of several runs, in microseconds; buffers are reused and not cleared between runs.
-//! `make` is with all moves in service, `withdraw` takes the highest move out of that book, and `remake` makes the same
-//! book afresh. `consult` is the mean over all states and goals. K is how many states the book keeps that is written or
-//! consulted. A ratio above 1 says how many times as long the other solver takes as the first column does.
+//! `make` is with all moves in service, `withdraw` takes the highest move out of that book, `preview` says what that
+//! costs, and `remake` makes the same book afresh. `consult` is the mean over all states and goals. K is how many
+//! states the book keeps that is written, previewed or consulted. A ratio above 1 says how many times as long the other
+//! solver takes as the first column does.
+//!
+//! After a family's sizes stand the growth of each call from the fewest states to the most, and how many times as long
+//! as withdraw a preview takes with the most.
 //!
 //! At the end stand consult and moves for the longest plant: moves in a state with one arrow, and in the busiest state
 //! there can be; and how many times as long as consult each solver takes for these.
@@ -13,10 +17,11 @@ use std::hint::black_box;
 
 use planbook::calls::Calls;
 use planbook::plants::{self, Model, FAMILIES};
+use planbook::second::format::number;
 use planbook::second::{Fast, Plain};
 
 const SIZES: [u16; 5] = [64, 128, 256, 512, 1024];
-const CALLS: [&str; 4] = ["make", "withdraw", "remake", "consult"];
+const CALLS: [&str; 5] = ["make", "withdraw", "preview", "remake", "consult"];
 const LOOKUPS: [&str; 3] = ["consult", "moves", "busiest"];
 const SEED: u64 = 1;
 
@@ -41,14 +46,16 @@ fn main() {
             sizes.push(planners.iter().map(|planner| measure(*planner, &model)).collect());
             print_times(family.name(), &model, &CALLS, &sizes[sizes.len() - 1]);
         }
-        print_growth(family.name(), &sizes[0], &sizes[sizes.len() - 1]);
+        let most = &sizes[sizes.len() - 1];
+        print_growth(family.name(), &sizes[0], most);
+        print_ratio(family.name(), &CALLS, [2, 1], most);
     }
 
     let model = plants::longest();
     let figures: Vec<_> = planners.iter().map(|planner| measure_lookups(*planner, &model)).collect();
     print_times("longest", &model, &LOOKUPS, &figures);
-    for (call, name) in LOOKUPS.iter().enumerate().skip(1) {
-        print_line("longest", "to consult", name, figures.iter().map(|figures| figures.times[call] / figures.times[0]));
+    for call in 1..LOOKUPS.len() {
+        print_ratio("longest", &LOOKUPS, [call, 0], &figures);
     }
 }
 
@@ -70,6 +77,7 @@ fn measure(planner: &dyn Calls, model: &Model) -> Figures<{ CALLS.len() }> {
 
     let make = least(|| accepted(planner.make(&plant, every_move, &mut book).number));
     let withdraw = least(|| accepted(planner.withdraw(&plant, &book, highest, &mut out, &mut drops).number));
+    let preview = least(|| accepted(planner.preview(&plant, &book, highest, &mut drops).number));
     let remake = least(|| accepted(planner.make(&plant, every_move & !highest, &mut out).number));
     let consult = least(|| {
         for state in 0..states as u32 {
@@ -79,7 +87,10 @@ fn measure(planner: &dyn Calls, model: &Model) -> Figures<{ CALLS.len() }> {
         }
     });
     let [before, after] = [&book, &out].map(|book| number(book, 6));
-    Figures { times: [make, withdraw, remake, consult / (states * goals) as f64], kept: [before, after, after, before] }
+    Figures {
+        times: [make, withdraw, preview, remake, consult / (states * goals) as f64],
+        kept: [before, after, after, after, before],
+    }
 }
 
 /// Consult, and moves in the first state and in the last, for the last goal.
@@ -95,11 +106,6 @@ fn measure_lookups(planner: &dyn Calls, model: &Model) -> Figures<{ LOOKUPS.len(
 
 fn accepted(number: u32) {
     assert_eq!(number, 0, "the calls that are measured are accepted");
-}
-
-/// The two-byte number at a place.
-fn number(bytes: &[u8], at: usize) -> u16 {
-    u16::from_le_bytes([bytes[at], bytes[at + 1]])
 }
 
 /// The least CPU time of a call over several runs, in nanoseconds.
@@ -175,11 +181,17 @@ fn print_growth(family: &str, fewest: &[Figures<{ CALLS.len() }>], most: &[Figur
     }
 }
 
+/// How many times as long as another call one takes.
+fn print_ratio<const N: usize>(family: &str, calls: &[&str; N], [call, to]: [usize; 2], figures: &[Figures<N>]) {
+    let ratios = figures.iter().map(|figures| figures.times[call] / figures.times[to]);
+    print_line(family, &format!("to {}", calls[to]), calls[call], ratios);
+}
+
 /// A figure for each planner that is no time.
 fn print_line(family: &str, what: &str, call: &str, figures: impl Iterator<Item = f64>) {
     print!("{family:<12}{what:>12}  {call:<9}{:>6}", "");
     for figure in figures {
-        print!("{figure:>13.1}");
+        print!("{figure:>13.2}");
     }
     println!();
 }

@@ -2,6 +2,7 @@
 
 use super::Comparison;
 use crate::plants::{self, bytes_of, Model, Random, FAMILIES};
+use crate::sys::{Answer, LONGEST_BOOK, LONGEST_LIST};
 
 /// A random round: some calls on inputs that come from the numbers given.
 pub type Round = fn(&mut Comparison, &mut Random);
@@ -94,6 +95,19 @@ fn any_length(needed: usize, random: &mut Random) -> usize {
     }
 }
 
+/// Compares a withdrawal, and the preview of it with a drop buffer of the same length; hands back the withdrawal's.
+fn withdraw_and_preview(
+    comparison: &mut Comparison,
+    plant: &[u8],
+    book: &[u8],
+    mask: u32,
+    lengths: [usize; 2],
+) -> (Answer, Vec<u8>) {
+    let withdrawn = comparison.withdraw(plant, book, mask, lengths);
+    comparison.preview(plant, book, mask, lengths[1]);
+    withdrawn
+}
+
 /// The first, the last and some other state, consulted for some goals, with their good moves and rows; and what is just
 /// out of range.
 fn look_up(comparison: &mut Comparison, plant: &[u8], book: &[u8], model: &Model, random: &mut Random) {
@@ -132,8 +146,9 @@ fn any_set(comparison: &mut Comparison, plant: &[u8], book: &[u8], model: &Model
     comparison.moves(plant, book, state, goal);
 }
 
-/// A list of makes and withdrawals on one plant, refused ones among them. The standing book is always the one made
-/// afresh for the moves in service, and whether a call is refused is told from its mask and buffers alone.
+/// A list of makes and withdrawals on one plant, refused ones among them, and a preview of each withdrawal. The
+/// standing book is always the one made afresh for the moves in service, and whether a call is refused is told from its
+/// mask and buffers alone.
 fn list_of_calls(comparison: &mut Comparison, random: &mut Random) {
     let model = any_plant(random);
     let plant = model.bytes();
@@ -152,12 +167,11 @@ fn list_of_calls(comparison: &mut Comparison, random: &mut Random) {
             comparison.withdraw(&plant, &standing, mask, [length, list])
         };
         let short = length < needed || !makes && list < listed;
-        let expected = match (mask & !model.every_move() != 0, short) {
-            (true, _) => 6,
-            (false, true) => 7,
-            (false, false) => 0,
-        };
-        assert_eq!(answer.number, expected, "told from the calls alone");
+        assert_eq!(answer.number, told(&model, mask, short), "told from the calls alone");
+        if !makes {
+            let cost = comparison.preview(&plant, &standing, mask, list);
+            assert_eq!(cost.number, told(&model, mask, list < listed), "told from the preview alone");
+        }
         if answer.number == 0 {
             in_service = if makes { mask } else { in_service & !mask };
             standing = book;
@@ -166,6 +180,15 @@ fn list_of_calls(comparison: &mut Comparison, random: &mut Random) {
         any_set(comparison, &plant, &standing, &model, random);
     }
     look_up(comparison, &plant, &standing, &model, random);
+}
+
+/// The number of a call whose plant and book give no refusal, from its mask and whether a buffer is too short.
+fn told(model: &Model, mask: u32, short: bool) -> u32 {
+    match (mask & !model.every_move() != 0, short) {
+        (true, _) => 6,
+        (false, true) => 7,
+        (false, false) => 0,
+    }
 }
 
 /// The good moves in books that were made and withdrawn from for the plant, in one that nobody made, and in books that
@@ -177,7 +200,7 @@ fn good_moves(comparison: &mut Comparison, random: &mut Random) {
     let (_, mut book) = comparison.make(&plant, many_moves(&model, random), lengths[0]);
     for _ in 0..3 {
         every_set(comparison, &plant, &book, &model, random.below(1024));
-        book = comparison.withdraw(&plant, &book, few_moves(&model, random), lengths).1;
+        book = withdraw_and_preview(comparison, &plant, &book, few_moves(&model, random), lengths).1;
     }
     every_set(comparison, &plant, &invent_book(&model, random), &model, random.below(1024));
     let (_, book) = comparison.make(&turned(&model).bytes(), many_moves(&model, random), lengths[0]);
@@ -225,28 +248,29 @@ fn invented_book(comparison: &mut Comparison, random: &mut Random) {
     withdrawals_from_invented(comparison, &model, random);
 }
 
-/// Withdrawals from a book that nobody made, and from what they write; and lookups in them.
+/// Withdrawals, each previewed, from a book that nobody made, and from what they write; and lookups in them.
 pub fn withdrawals_from_invented(comparison: &mut Comparison, model: &Model, random: &mut Random) {
     let plant = model.bytes();
     let mut book = invent_book(model, random);
     for _ in 0..3 {
         let mask = few_moves(model, random);
-        let (answer, next) = comparison.withdraw(&plant, &book, mask, [book_length(model), list_length(model)]);
+        let lengths = [book_length(model), list_length(model)];
+        let (answer, next) = withdraw_and_preview(comparison, &plant, &book, mask, lengths);
         assert_eq!(answer.number, 0, "an invented book is accepted");
         look_up(comparison, &plant, &book, model, random);
         book = next;
     }
 }
 
-/// The plant made with all moves in service, and then one more withdrawn each time, from the highest down; and the good
-/// moves in each of these books.
+/// The plant made with all moves in service, and then one more withdrawn and previewed each time, from the highest
+/// down; and the good moves in each of these books.
 pub fn each_move_in_turn(comparison: &mut Comparison, model: &Model) {
     let plant = model.bytes();
     let lengths = [book_length(model), list_length(model)];
     let (_, mut book) = comparison.make(&plant, model.every_move(), lengths[0]);
     for action in (0..model.moves).rev() {
         every_set(comparison, &plant, &book, model, action.into());
-        book = comparison.withdraw(&plant, &book, 1 << action, lengths).1;
+        book = withdraw_and_preview(comparison, &plant, &book, 1 << action, lengths).1;
         comparison.made_afresh(&plant, (1 << action) - 1, &book);
     }
 }
@@ -269,7 +293,7 @@ fn damage(bytes: &mut Vec<u8>, random: &mut Random) {
     }
 }
 
-/// Plants with some bytes damaged, made of, withdrawn with and looked up with.
+/// Plants with some bytes damaged, made of, withdrawn and previewed with, and looked up with.
 fn damaged_plant(comparison: &mut Comparison, random: &mut Random) {
     let model = plants::tiny(random);
     let book = invent_book(&model, random);
@@ -279,12 +303,13 @@ fn damaged_plant(comparison: &mut Comparison, random: &mut Random) {
         let mask = or_too_high(many_moves(&model, random), random);
         comparison.make(&plant, mask, any_length(book.len(), random));
         let mask = or_too_high(few_moves(&model, random), random);
-        comparison.withdraw(&plant, &book, mask, [any_length(book.len(), random), list_length(&model)]);
+        let lengths = [any_length(book.len(), random), list_length(&model)];
+        withdraw_and_preview(comparison, &plant, &book, mask, lengths);
         any_set(comparison, &plant, &book, &model, random);
     }
 }
 
-/// Books with some bytes damaged, withdrawn from and looked up in.
+/// Books with some bytes damaged, withdrawn and previewed from, and looked up in.
 fn damaged_book(comparison: &mut Comparison, random: &mut Random) {
     let model = plants::tiny(random);
     let plant = model.bytes();
@@ -293,7 +318,8 @@ fn damaged_book(comparison: &mut Comparison, random: &mut Random) {
         let mut book = if random.once_in(2) { whole.clone() } else { invent_book(&model, random) };
         damage(&mut book, random);
         let mask = or_too_high(few_moves(&model, random), random);
-        comparison.withdraw(&plant, &book, mask, [any_length(whole.len(), random), list_length(&model)]);
+        let lengths = [any_length(whole.len(), random), list_length(&model)];
+        withdraw_and_preview(comparison, &plant, &book, mask, lengths);
         look_up(comparison, &plant, &book, &model, random);
     }
 }
@@ -316,8 +342,8 @@ fn random_header(comparison: &mut Comparison, random: &mut Random) {
     plant.resize(plant_length.max(16), 0);
     book.resize(book_length.max(16), 0xff);
     for _ in 0..2 {
-        comparison.make(&plant, random.bits() as u32 & 3, 1 << 15 | 16);
-        comparison.withdraw(&plant, &book, random.bits() as u32 & 3, [1 << 15 | 16, 2048]);
+        comparison.make(&plant, random.bits() as u32 & 3, LONGEST_BOOK);
+        withdraw_and_preview(comparison, &plant, &book, random.bits() as u32 & 3, [LONGEST_BOOK, LONGEST_LIST]);
         comparison.consult(&book, random.below(1025) as u32, random.below(9) as u32);
         comparison.moves(&plant, &book, random.below(1025) as u32, random.below(9) as u32);
         comparison.row(&book, random.below(1025) as u32);
@@ -338,11 +364,11 @@ fn buffers(comparison: &mut Comparison, random: &mut Random) {
         let (length, list) = ((needed + 3).saturating_sub(less), (listed + 3).saturating_sub(less));
         comparison.make(&plant, made, length);
         comparison.withdraw(&plant, &book, withdrawn, [length, listed]);
-        comparison.withdraw(&plant, &book, withdrawn, [needed, list]);
+        withdraw_and_preview(comparison, &plant, &book, withdrawn, [needed, list]);
     }
     for length in [0, 1, 15, 16, 17] {
         comparison.make(&plant, made, length);
-        comparison.withdraw(&plant, &book, withdrawn, [needed, length]);
+        withdraw_and_preview(comparison, &plant, &book, withdrawn, [needed, length]);
     }
 }
 
@@ -361,7 +387,7 @@ fn single_bytes(comparison: &mut Comparison) {
             let mut plant = plant.clone();
             plant[at] = value;
             comparison.make(&plant, 7, 64);
-            comparison.withdraw(&plant, &book, 4, [64, 16]);
+            withdraw_and_preview(comparison, &plant, &book, 4, [64, 16]);
             every_set(comparison, &plant, &book, &plants::strip(), 0);
         }
     }
@@ -369,7 +395,7 @@ fn single_bytes(comparison: &mut Comparison) {
         for value in (0..=255).filter(|&value| value != book[at]) {
             let mut book = book.clone();
             book[at] = value;
-            comparison.withdraw(&plant, &book, 4, [48, 8]);
+            withdraw_and_preview(comparison, &plant, &book, 4, [48, 8]);
             for state in 0..5 {
                 comparison.consult(&book, state, state % 3);
                 comparison.row(&book, state);
@@ -392,12 +418,12 @@ fn other_lengths(comparison: &mut Comparison) {
     for length in 0..plant.len() + 20 {
         let plant = of_length(&plant, length);
         comparison.make(&plant, 7, 48);
-        comparison.withdraw(&plant, &book, 4, [48, 8]);
+        withdraw_and_preview(comparison, &plant, &book, 4, [48, 8]);
         comparison.moves(&plant, &book, 0, 1);
     }
     for length in 0..book.len() + 20 {
         let book = of_length(&book, length);
-        comparison.withdraw(&plant, &book, 4, [48, 8]);
+        withdraw_and_preview(comparison, &plant, &book, 4, [48, 8]);
         comparison.consult(&book, 0, 1);
         comparison.moves(&plant, &book, 0, 1);
         comparison.row(&book, 0);
@@ -410,7 +436,7 @@ fn every_mask(comparison: &mut Comparison) {
     for made in 0..16 {
         let (_, book) = comparison.make(&plant, made, 48);
         for withdrawn in 0..16 {
-            let (_, rest) = comparison.withdraw(&plant, &book, withdrawn, [48, 8]);
+            let (_, rest) = withdraw_and_preview(comparison, &plant, &book, withdrawn, [48, 8]);
             for state in 0..4 {
                 comparison.consult(&rest, state, 0);
                 comparison.row(&rest, state);
@@ -428,6 +454,7 @@ fn every_buffer(comparison: &mut Comparison) {
         for list in 0..16 {
             comparison.withdraw(&plant, &book, 1, [length, list]);
         }
+        comparison.preview(&plant, &book, 1, length);
     }
 }
 
@@ -447,7 +474,7 @@ fn largest(comparison: &mut Comparison) {
         let plant = filled(states, moves, goals, arrows).bytes();
         let mask = u32::MAX >> (32 - moves.clamp(1, 32));
         let (_, book) = comparison.make(&plant, mask, 1 << 16);
-        comparison.withdraw(&plant, &book, mask & 1, [1 << 16, 1 << 12]);
+        withdraw_and_preview(comparison, &plant, &book, mask & 1, [1 << 16, 1 << 12]);
         comparison.consult(&book, 1023, 7);
         comparison.moves(&plant, &book, 1023, 7);
         comparison.row(&book, 1023);

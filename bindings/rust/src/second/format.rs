@@ -139,9 +139,8 @@ impl<'a> BookView<'a> {
 
 /// Fills `book`, which has the length of the plant's books.
 pub fn write_book(plant: &Plant, mask: u32, table: &Table, book: &mut [u8]) {
-    let kept = table.waits.iter().step_by(plant.goals).filter(|&&wait| wait != LOST).count();
     let halves = [mask as u16, (mask >> 16) as u16];
-    let counts = [plant.states, plant.moves, plant.goals, kept].map(|count| count as u16);
+    let counts = [plant.states, plant.moves, plant.goals, table.kept_count(plant)].map(|count| count as u16);
     let header = counts.into_iter().chain(halves).chain([16, book.len() as u16]);
     let rows = table.waits.iter().zip(&table.moves).flat_map(|(&wait, &action)| [wait, action]);
     for (place, value) in book.chunks_exact_mut(2).zip(header.chain(rows)) {
@@ -173,6 +172,6 @@ fn numbers(bytes: &[u8]) -> impl Iterator<Item = u16> + '_ {
 }
 
 /// The two-byte number at a place.
-fn number(bytes: &[u8], at: usize) -> u16 {
+pub fn number(bytes: &[u8], at: usize) -> u16 {
     u16::from_le_bytes([bytes[at], bytes[at + 1]])
 }

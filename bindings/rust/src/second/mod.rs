@@ -19,7 +19,7 @@ pub use fast::Fast;
 pub use plain::Plain;
 
 use crate::calls::Calls;
-use crate::sys::{Advice, Answer, Mask, Part};
+use crate::sys::{Advice, Answer, Cost, Mask, Part};
 use crate::Refusal;
 use format::{in_mask, BookView, Plant, LOST};
 
@@ -37,6 +37,16 @@ impl Table {
     pub fn lost(plant: &Plant) -> Table {
         let entries = plant.states * plant.goals;
         Table { waits: vec![LOST; entries], moves: vec![LOST; entries] }
+    }
+
+    /// Whether the state is kept.
+    pub fn is_kept(&self, plant: &Plant, state: usize) -> bool {
+        self.waits[state * plant.goals] != LOST
+    }
+
+    /// How many states are kept.
+    pub fn kept_count(&self, plant: &Plant) -> usize {
+        (0..plant.states).filter(|&state| self.is_kept(plant, state)).count()
     }
 }
 
@@ -61,6 +71,10 @@ impl<S: Solve> Calls for S {
 
     fn withdraw(&self, plant: &[u8], book: &[u8], mask: u32, out: &mut [u8], drops: &mut [u8]) -> Answer {
         withdraw::<S>(plant, book, mask, out, drops).unwrap_or_else(|refusal| Answer::refused(refusal.number()))
+    }
+
+    fn preview(&self, plant: &[u8], book: &[u8], mask: u32, drops: &mut [u8]) -> Cost {
+        preview::<S>(plant, book, mask, drops).unwrap_or_else(|refusal| Cost::refused(refusal.number()))
     }
 
     fn consult(&self, book: &[u8], state: u32, goal: u32) -> Advice {
@@ -93,22 +107,52 @@ fn withdraw<S: Solve>(
     out: &mut [u8],
     drops: &mut [u8],
 ) -> Result<Answer, Refusal> {
-    let plant = Plant::read(plant)?;
-    let old = BookView::read(book, Some(&plant))?;
+    let Withdrawal { plant, kept, left } = Withdrawal::read(plant, book, mask)?;
     let length = plant.book_length();
-    require(plant.has_moves(mask), Refusal::Mask)?;
     require(out.len() >= length && drops.len() >= 2 * plant.states, Refusal::Buffer)?;
-    let kept: Vec<bool> = (0..plant.states).map(|state| old.is_kept(state)).collect();
-    let left = old.mask & !mask;
     let table = S::solve(&plant, left, &kept);
     format::write_book(&plant, left, &table, &mut out[..length]);
-    let dropped = (0..plant.states).filter(|&state| kept[state] && table.waits[state * plant.goals] == LOST);
+    Ok(Answer { number: 0, length: length as u32, drops: list_dropped(&plant, &kept, &table, drops) })
+}
+
+/// Solves the plant as withdraw does, and counts the rows in place of writing them.
+fn preview<S: Solve>(plant: &[u8], book: &[u8], mask: u32, drops: &mut [u8]) -> Result<Cost, Refusal> {
+    let Withdrawal { plant, kept, left } = Withdrawal::read(plant, book, mask)?;
+    require(drops.len() >= 2 * plant.states, Refusal::Buffer)?;
+    let table = S::solve(&plant, left, &kept);
+    let rest = table.kept_count(&plant) as u32;
+    Ok(Cost { number: 0, drops: list_dropped(&plant, &kept, &table, drops), kept: rest })
+}
+
+/// What withdraw and preview work from.
+struct Withdrawal {
+    plant: Plant,
+    /// Whether each state is kept in the book handed in.
+    kept: Vec<bool>,
+    /// The moves still in service.
+    left: u32,
+}
+
+impl Withdrawal {
+    /// Refuses with 1 to 6.
+    fn read(plant: &[u8], book: &[u8], mask: u32) -> Result<Withdrawal, Refusal> {
+        let plant = Plant::read(plant)?;
+        let old = BookView::read(book, Some(&plant))?;
+        require(plant.has_moves(mask), Refusal::Mask)?;
+        let kept = (0..plant.states).map(|state| old.is_kept(state)).collect();
+        Ok(Withdrawal { plant, kept, left: old.mask & !mask })
+    }
+}
+
+/// Lists the states that were kept and that the table has lost, by rising number; answers how many.
+fn list_dropped(plant: &Plant, kept: &[bool], table: &Table, drops: &mut [u8]) -> u32 {
+    let dropped = (0..plant.states).filter(|&state| kept[state] && !table.is_kept(plant, state));
     let mut count = 0;
     for (state, place) in dropped.zip(drops.chunks_exact_mut(2)) {
         place.copy_from_slice(&(state as u16).to_le_bytes());
         count += 1;
     }
-    Ok(Answer { number: 0, length: length as u32, drops: count })
+    count
 }
 
 fn consult(book: &[u8], state: u32, goal: u32) -> Result<Advice, Refusal> {

@@ -1,9 +1,10 @@
 //! What document 01 fixes by hand: the marked examples M1 to M11, and the table of refusals with its edges; and what
-//! requests (i) and (ii) of document 02 say of the good moves and of drop lists, worked out by hand. Run on any planner.
+//! requests (i), (ii) and (iv) of document 02 say of the good moves, of drop lists and of previews, worked out by hand.
+//! Run on any planner.
 
 use planbook::calls::Calls;
 use planbook::plants::{self, bytes_of, Model};
-use planbook::sys::{Advice, Answer, Mask, Part};
+use planbook::sys::{Advice, Answer, Cost, Mask, Part};
 
 const LOST: u16 = u16::MAX;
 
@@ -17,6 +18,13 @@ const P: [u16; 36] = [
 
 /// P's rows with all moves in service (M1).
 const M1_ROWS: [u16; 16] = [0, 0, 2, 0, /**/ 1, 2, 1, 0, /**/ 1, 0, 0, 0, /**/ LOST, LOST, LOST, LOST];
+
+/// The rows of M9's book, which nobody made: M1's with row 1 lost.
+const M9_ROWS: [u16; 16] =
+    [0, 0, 2, 0, /**/ LOST, LOST, LOST, LOST, /**/ 1, 0, 0, 0, /**/ LOST, LOST, LOST, LOST];
+
+/// Rows that keep state 3, too, which P does not allow.
+const NOT_ALLOWED_ROWS: [u16; 16] = [0, 0, 2, 0, /**/ 1, 2, 1, 0, /**/ 1, 0, 0, 0, /**/ 0, 0, 0, 0];
 
 /// A book of P with these rows.
 fn book_of_p(kept: u16, mask: u16, rows: [u16; 16]) -> Vec<u8> {
@@ -36,9 +44,25 @@ fn check_withdrawal(planner: &dyn Calls, book: &[u8], mask: u32, expected: &[u8]
     assert_eq!(answer, Answer { number: 0, length: 48, drops: dropped.len() as u32 });
     assert_eq!(out[..48], *expected);
     assert_eq!((out[48], out[49]), (0xa5, 0xa5), "bytes past the book stay");
-    let (written, past) = list.split_at(2 * dropped.len());
-    assert_eq!(written, bytes_of(dropped), "by rising number");
-    assert!(past.iter().all(|&byte| byte == 0xa5), "bytes past the list stay");
+    assert_eq!(list[..], listed(dropped, list.len()));
+}
+
+/// A drop buffer of this length that had 0xa5 in every byte: the states by rising number, and the bytes past them as
+/// they were.
+fn listed(dropped: &[u16], length: usize) -> Vec<u8> {
+    [bytes_of(dropped), vec![0xa5; length - 2 * dropped.len()]].concat()
+}
+
+/// An accepted preview, with a drop buffer of just 2S bytes and a longer one; and refused with one byte less.
+fn check_cost(planner: &dyn Calls, plant: &[u8], book: &[u8], mask: u32, dropped: &[u16], kept: u32) {
+    let just = 2 * usize::from(u16::from_le_bytes([plant[0], plant[1]]));
+    for length in [just, just + 3] {
+        let mut list = vec![0xa5; length];
+        let cost = planner.preview(plant, book, mask, &mut list);
+        assert_eq!(cost, Cost { number: 0, drops: dropped.len() as u32, kept }, "mask {mask:#x} of {book:?}");
+        assert_eq!(list, listed(dropped, length), "mask {mask:#x} of {book:?}");
+    }
+    check_preview(planner, plant, book, mask, just - 1, 7);
 }
 
 /// M1 to M11.
@@ -66,9 +90,7 @@ pub fn marked_examples(planner: &dyn Calls) {
     );
     small("M11", &[2, 1, 1, 1, 16, 20, 26, 0, 1, 3, 0, 0, 1], &[2, 1, 1, 0, 1, 0, 16, 24, LOST, LOST, LOST, LOST]);
 
-    let mut m9_rows = M1_ROWS;
-    m9_rows[4..8].fill(LOST);
-    check_withdrawal(planner, &book_of_p(2, 7, m9_rows), 0, &book_of_p(0, 7, [LOST; 16]), &[0, 2]); // M9
+    check_withdrawal(planner, &book_of_p(2, 7, M9_ROWS), 0, &book_of_p(0, 7, [LOST; 16]), &[0, 2]); // M9
 
     let advice = |action, wait, seek| Advice { number: 0, lost: 0, action, wait, seek };
     assert_eq!(planner.consult(&m1, 0, 1), advice(0, 2, 1), "M10");
@@ -93,14 +115,52 @@ pub fn further_examples(planner: &dyn Calls) {
     assert_eq!(made(planner, &highest, 1 << 31, 20), bytes_of(&[1, 32, 1, 1, 0, 0x8000, 16, 20, 0, 31]));
     assert_eq!(made(planner, &highest, u32::MAX >> 1, 20), bytes_of(&[1, 32, 1, 0, LOST, 0x7fff, 16, 20, LOST, LOST]));
 
-    let mut rows = M1_ROWS;
-    rows[12..].fill(0);
-    check_withdrawal(planner, &book_of_p(4, 7, rows), 0, &book_of_p(3, 7, M1_ROWS), &[3]);
+    check_withdrawal(planner, &book_of_p(4, 7, NOT_ALLOWED_ROWS), 0, &book_of_p(3, 7, M1_ROWS), &[3]);
+}
+
+/// Previews of the marked examples' withdrawals, and some more of P, by hand.
+pub fn previews(planner: &dyn Calls) {
+    let plant = bytes_of(&P);
+    let check = |book: &[u8], mask, dropped: &[u16], kept| check_cost(planner, &plant, book, mask, dropped, kept);
+    let m1 = book_of_p(3, 7, M1_ROWS);
+    check(&m1, 4, &[], 3); // M2
+    check(&m1, 1, &[0, 1, 2], 0); // M3
+    check(&m1, 2, &[], 3); // M4
+    check(&book_of_p(2, 7, M9_ROWS), 0, &[0, 2], 0); // M9
+
+    // To withdraw no move, or one that is out already, costs nothing; to withdraw all drops whatever is kept.
+    check(&m1, 0, &[], 3);
+    check(&book_of_p(3, 5, M1_ROWS), 2, &[], 3);
+    check(&m1, 7, &[0, 1, 2], 0);
+
+    // Some dropped and some kept: state 3, which the plant does not allow, and which the book keeps all the same.
+    check(&book_of_p(4, 7, NOT_ALLOWED_ROWS), 0, &[3], 3);
+    check(&book_of_p(4, 7, NOT_ALLOWED_ROWS), 1, &[0, 1, 2, 3], 0);
+
+    // Nothing is kept, so nothing is dropped.
+    check(&book_of_p(0, 7, [LOST; 16]), 1, &[], 0);
+}
+
+/// The longest plant, and its book with all moves in service, in which every state is kept.
+fn longest(planner: &dyn Calls) -> (Vec<u8>, Vec<u8>) {
+    let plant = plants::longest().bytes();
+    let mut book = vec![0; 32_784];
+    assert_eq!((plant.len(), planner.make(&plant, u32::MAX, &mut book).length), (51_216, 32_784));
+    (plant, book)
+}
+
+/// Previews of the longest plant, by hand: 2,048 bytes for the list will do, though its books have 32,784, and 2,047
+/// will not. All states but the last have move 0 alone, each to the next; the last leads to them by moves 0 to 7.
+/// Without move 0 all are lost, without move 1 none is.
+pub fn previews_of_the_longest(planner: &dyn Calls) {
+    let (plant, book) = longest(planner);
+    check_cost(planner, &plant, &book, 1, &(0..1024).collect::<Vec<u16>>(), 0);
+    check_cost(planner, &plant, &book, 2, &[], 1024);
 }
 
 /// Drop lists of a plant of 1,024 states, by hand, in buffers that are just long enough, longer, and too short by one
-/// byte. Each state is in the one goal and stays there by the moves of its own: move 0, and every third state move 1
-/// too. Without move 0 the others are dropped, without both all are.
+/// byte; and the previews of them. Each state is in the one goal and stays there by the moves of its own: move 0, and
+/// every third state move 1 too. Without move 0 the others are dropped, without both all are.
 pub fn drop_lists(planner: &dyn Calls) {
     let stays = |state: u16| (0..if state % 3 == 0 { 2 } else { 1 }).map(move |action| [state, action, state]);
     let arrows = (0..1024).flat_map(stays).collect();
@@ -112,9 +172,10 @@ pub fn drop_lists(planner: &dyn Calls) {
             let (mut out, mut list) = (book.clone(), vec![0xa5; length]);
             let answer = planner.withdraw(&plant, &book, mask, &mut out, &mut list);
             assert_eq!((answer.number, answer.drops as usize), (0, dropped.len()));
-            assert_eq!(list, [bytes_of(dropped), vec![0xa5; length - 2 * dropped.len()]].concat());
+            assert_eq!(list, listed(dropped, length));
         }
         check_withdraw(planner, &plant, &book, mask, [book.len(), 2047], 7);
+        check_cost(planner, &plant, &book, mask, dropped, 1024 - dropped.len() as u32);
     };
     check(0, &[]);
     check(1, &(0..1024).filter(|state| state % 3 != 0).collect::<Vec<u16>>());
@@ -150,16 +211,14 @@ pub fn good_moves(planner: &dyn Calls) {
     check_sets(planner, &P, &book_of_p(3, 3, with(&[(4, 2), (5, 0)])), &[&[3, 3], &[1, 1], &[1, 1], &[0, 0]]);
 
     // M9's book, which nobody made: state 1 is lost, so state 0 has no good move though it is kept; state 2 has one.
-    let lost = with(&[(4, LOST), (5, LOST), (6, LOST), (7, LOST)]);
-    check_sets(planner, &P, &book_of_p(2, 7, lost), &[&[0, 0], &[0, 0], &[1, 1], &[0, 0]]);
+    check_sets(planner, &P, &book_of_p(2, 7, M9_ROWS), &[&[0, 0], &[0, 0], &[1, 1], &[0, 0]]);
 
     // The row's wait counts and not the label: state 0 is in goal 0 and at wait 1 here, state 1 is not and at wait 0.
     check_sets(planner, &P, &book_of_p(3, 7, with(&[(0, 1)])), &[&[0, 3], &[0, 1], &[0, 5], &[0, 0]]);
     check_sets(planner, &P, &book_of_p(3, 7, with(&[(4, 0)])), &[&[3, 3], &[5, 1], &[5, 5], &[0, 0]]);
 
     // A move may end in a state that the book keeps though the plant does not allow it; state 3 itself has no arrow.
-    let not_allowed = with(&[(12, 0), (13, 0), (14, 0), (15, 0)]);
-    check_sets(planner, &P, &book_of_p(4, 7, not_allowed), &[&[3, 3], &[6, 3], &[1, 5], &[0, 0]]);
+    check_sets(planner, &P, &book_of_p(4, 7, NOT_ALLOWED_ROWS), &[&[3, 3], &[6, 3], &[1, 5], &[0, 0]]);
 
     // M8's plant, with goal {1}: a move that may stay in state 0 comes no nearer, whatever else it may do.
     let may_stay = [2, 1, 1, 3, 16, 20, 38, 0, 1, 3, 0, 0, 0, 0, 0, 1, 1, 0, 1];
@@ -178,9 +237,7 @@ pub fn good_moves(planner: &dyn Calls) {
 /// The good moves in the longest plant and book, by hand: the last state has 7 moves with 1,023 arrows each and one
 /// with 8, all to states in every goal, and each of those has a move to the next state.
 pub fn good_moves_of_the_longest(planner: &dyn Calls) {
-    let plant = plants::longest().bytes();
-    let mut book = vec![0; 32_784];
-    assert_eq!((plant.len(), planner.make(&plant, u32::MAX, &mut book).length), (51_216, 32_784));
+    let (plant, book) = longest(planner);
     for (state, mask) in [(1023, 0xff), (1022, 1), (0, 1)] {
         assert_eq!(planner.moves(&plant, &book, state, 7), Mask { number: 0, mask }, "state {state}");
     }
@@ -212,6 +269,17 @@ fn check_withdraw(planner: &dyn Calls, plant: &[u8], book: &[u8], mask: u32, len
     if number != 0 {
         assert_eq!(answer, Answer::refused(number));
         assert!(out.iter().chain(&list).all(|&byte| byte == 0xa5), "a refusal writes nothing");
+    }
+}
+
+/// A preview with a drop buffer of this length: the number, and nothing counted or written if refused.
+fn check_preview(planner: &dyn Calls, plant: &[u8], book: &[u8], mask: u32, length: usize, number: u32) {
+    let mut list = vec![0xa5; length];
+    let cost = planner.preview(plant, book, mask, &mut list);
+    assert_eq!(cost.number, number, "preview, mask {mask:#x} of {book:?}, plant {plant:?}");
+    if number != 0 {
+        assert_eq!(cost, Cost::refused(number));
+        assert!(list.iter().all(|&byte| byte == 0xa5), "a refusal writes nothing");
     }
 }
 
@@ -250,67 +318,93 @@ fn with_arrows(count: u16) -> Vec<u8> {
     bytes_of(header.iter().chain(&vec![1; 300]).chain(&arrows.collect::<Vec<u16>>()))
 }
 
-/// Each line of the table of returned numbers, both edges of each limit, and the order of the lines.
+/// All refusals, on both sides of each limit, with every call that gives them.
 pub fn refusals(planner: &dyn Calls) {
-    let plant = bytes_of(&P);
-    let book_numbers: Vec<u16> = [4, 3, 2, 3, 7, 0, 16, 48].into_iter().chain(M1_ROWS).collect();
-    let book = bytes_of(&book_numbers);
-    let make = |plant: &[u8], number| {
-        check_make(planner, plant, 0, 1 << 15 | 16, number);
-        if number != 0 {
-            check_moves(planner, plant, &book, 0, 0, number);
-        }
-    };
-    let withdraw = |book: &[u8], number| {
-        check_withdraw(planner, &plant, book, 4, [48, 8], number);
-        check_moves(planner, &plant, book, 3, 1, number);
-    };
+    plant_headers(planner);
+    labels_and_arrows(planner);
+    book_headers(planner);
+    book_rows(planner);
+    masks_and_buffers(planner);
+    states_and_goals(planner);
+    the_lowest_that_applies(planner);
+}
 
-    // 1: the plant's header and length.
-    make(&plant[..15], 1);
-    make(&[], 1);
-    make(&plant[..71], 1);
-    make(&[&plant[..], &[0]].concat(), 1);
+/// The numbers of M1's book.
+fn m1_numbers() -> Vec<u16> {
+    [4, 3, 2, 3, 7, 0, 16, 48].into_iter().chain(M1_ROWS).collect()
+}
+
+/// The number for a plant, by every call that takes one.
+fn check_plant(planner: &dyn Calls, plant: &[u8], number: u32) {
+    check_make(planner, plant, 0, 1 << 15 | 16, number);
+    if number != 0 {
+        let book = bytes_of(&m1_numbers());
+        check_withdraw(planner, plant, &book, 0, [48, 8], number);
+        check_preview(planner, plant, &book, 0, 8, number);
+        check_moves(planner, plant, &book, 0, 0, number);
+    }
+}
+
+/// The number for a book, by every call that takes one beside P.
+fn check_book(planner: &dyn Calls, book: &[u8], number: u32) {
+    let plant = bytes_of(&P);
+    check_withdraw(planner, &plant, book, 4, [48, 8], number);
+    check_preview(planner, &plant, book, 4, 8, number);
+    check_moves(planner, &plant, book, 3, 1, number);
+}
+
+/// 1: the plant's header and length.
+fn plant_headers(planner: &dyn Calls) {
+    let plant = bytes_of(&P);
+    check_plant(planner, &plant[..15], 1);
+    check_plant(planner, &[], 1);
+    check_plant(planner, &plant[..71], 1);
+    check_plant(planner, &[&plant[..], &[0]].concat(), 1);
     for (at, &number) in P[..8].iter().enumerate() {
         // 0 is right for the last number; U and N may be larger than the labels and arrows need.
-        make(&changed(&P, &[(at, 0)]), if at == 7 { 0 } else { 1 });
-        make(&changed(&P, &[(at, number + 1)]), if at == 1 || at == 2 { 0 } else { 1 });
+        check_plant(planner, &changed(&P, &[(at, 0)]), if at == 7 { 0 } else { 1 });
+        check_plant(planner, &changed(&P, &[(at, number + 1)]), if at == 1 || at == 2 { 0 } else { 1 });
     }
     for (states, moves, goals) in [(1025, 32, 8), (1024, 33, 8), (1024, 32, 9), (0, 1, 1), (1, 0, 1), (1, 1, 0)] {
-        make(&bare(states, moves, goals), 1);
+        check_plant(planner, &bare(states, moves, goals), 1);
     }
     for (states, moves, goals) in [(1024, 32, 8), (1, 1, 1)] {
-        make(&bare(states, moves, goals), 0);
+        check_plant(planner, &bare(states, moves, goals), 0);
     }
-    make(&with_arrows(8192), 0);
-    make(&with_arrows(8193), 1);
+    check_plant(planner, &with_arrows(8192), 0);
+    check_plant(planner, &with_arrows(8193), 1);
+}
 
-    // 2: a label's bit above bit N.
-    make(&changed(&P, &[(8, 7)]), 0);
-    make(&changed(&P, &[(8, 8)]), 2);
-    make(&changed(&P, &[(11, 0x8000)]), 2);
-    make(&changed(&P, &[(11, 6)]), 0); // goal bits of a state that is not allowed
+/// 2 and 3: a label's bit above bit N; arrows out of range or order.
+fn labels_and_arrows(planner: &dyn Calls) {
+    check_plant(planner, &changed(&P, &[(8, 7)]), 0);
+    check_plant(planner, &changed(&P, &[(8, 8)]), 2);
+    check_plant(planner, &changed(&P, &[(11, 0x8000)]), 2);
+    check_plant(planner, &changed(&P, &[(11, 6)]), 0); // goal bits of a state that is not allowed
     for (label, number) in [(0x1ff, 0), (0x200, 2)] {
         let mut plant = bare(1, 1, 8);
         plant[16..18].copy_from_slice(&u16::to_le_bytes(label));
-        make(&plant, number);
+        check_plant(planner, &plant, number);
     }
 
     // 3: arrows out of range or order.
     for (at, number) in [(33, 4), (34, 3), (35, 4), (35, u16::MAX)] {
-        make(&changed(&P, &[(at, number)]), 3);
+        check_plant(planner, &changed(&P, &[(at, number)]), 3);
     }
-    make(&changed(&P, &[(20, 1)]), 3); // (0,1,1) twice
-    make(&changed(&P, &[(20, 3)]), 0); // (0,1,3) after (0,1,1)
-    make(&changed(&P, &[(17, 3)]), 3); // (0,1,3) before (0,1,2)
-    make(&changed(&P, &[(30, 0)]), 3); // (0,0,0) late
+    check_plant(planner, &changed(&P, &[(20, 1)]), 3); // (0,1,1) twice
+    check_plant(planner, &changed(&P, &[(20, 3)]), 0); // (0,1,3) after (0,1,1)
+    check_plant(planner, &changed(&P, &[(17, 3)]), 3); // (0,1,3) before (0,1,2)
+    check_plant(planner, &changed(&P, &[(30, 0)]), 3); // (0,0,0) late
+}
 
-    // 4: the book's header and length, alone and beside the plant.
+/// 4: the book's header and length, alone and beside the plant.
+fn book_headers(planner: &dyn Calls) {
+    let (book_numbers, book) = (m1_numbers(), bytes_of(&m1_numbers()));
     for short in [0, 15, 16, 47] {
-        withdraw(&book[..short], 4);
+        check_book(planner, &book[..short], 4);
         check_lookup(planner, &book[..short], 0, 0, 4);
     }
-    withdraw(&[&book[..], &[0]].concat(), 4);
+    check_book(planner, &[&book[..], &[0]].concat(), 4);
     for (at, number) in [
         (0, 3),
         (0, 0),
@@ -327,17 +421,20 @@ pub fn refusals(planner: &dyn Calls) {
         (7, 49),
     ] {
         let book = changed(&book_numbers, &[(at, number)]);
-        withdraw(&book, 4);
+        check_book(planner, &book, 4);
         check_lookup(planner, &book, 0, 0, 4);
     }
     let four_moves = changed(&book_numbers, &[(1, 4)]);
-    withdraw(&four_moves, 4);
+    check_book(planner, &four_moves, 4);
     check_lookup(planner, &four_moves, 0, 0, 0);
     let row_as_well = changed(&book_numbers, &[(1, 4), (8, 1024)]);
-    withdraw(&row_as_well, 4);
+    check_book(planner, &row_as_well, 4);
     check_lookup(planner, &row_as_well, 0, 0, 5);
+}
 
-    // 5: rows and their count.
+/// 5: rows and their count.
+fn book_rows(planner: &dyn Calls) {
+    let book_numbers = m1_numbers();
     for changes in [
         vec![(8, 1024)],
         vec![(8, LOST)],
@@ -352,19 +449,27 @@ pub fn refusals(planner: &dyn Calls) {
         vec![(20, 0), (21, 0), (22, 0), (23, 0)],
     ] {
         let book = changed(&book_numbers, &changes);
-        withdraw(&book, 5);
+        check_book(planner, &book, 5);
         check_lookup(planner, &book, 3, 1, 5);
     }
-    withdraw(&changed(&book_numbers, &[(8, 1023)]), 0);
-    withdraw(&changed(&book_numbers, &[(20, 0), (21, 0), (22, 0), (23, 0), (3, 4)]), 0);
+    check_book(planner, &changed(&book_numbers, &[(8, 1023)]), 0);
+    check_book(planner, &changed(&book_numbers, &[(20, 0), (21, 0), (22, 0), (23, 0), (3, 4)]), 0);
+}
 
-    // 6: the mask given.
+/// 6 and 7: the mask given, and the buffers.
+fn masks_and_buffers(planner: &dyn Calls) {
+    let (plant, book) = (bytes_of(&P), bytes_of(&m1_numbers()));
     for (mask, number) in [(7, 0), (8, 6), (15, 6), (1 << 31, 6), (0, 0)] {
         check_make(planner, &plant, mask, 48, number);
         check_withdraw(planner, &plant, &book, mask, [48, 8], number);
+        check_preview(planner, &plant, &book, mask, 8, number);
     }
     check_make(planner, &bare(1, 32, 1), u32::MAX, 20, 0);
     check_make(planner, &bare(1, 31, 1), u32::MAX, 20, 6);
+    for (moves, number) in [(32, 0), (31, 6)] {
+        let lost = bytes_of(&[1, moves, 1, 0, 0, 0, 16, 20, LOST, LOST]);
+        check_preview(planner, &bare(1, moves, 1), &lost, u32::MAX, 2, number);
+    }
 
     // 7: the buffers.
     for (length, number) in [(48, 0), (47, 7), (0, 7), (49, 0)] {
@@ -373,30 +478,41 @@ pub fn refusals(planner: &dyn Calls) {
     }
     for (length, number) in [(8, 0), (7, 7), (0, 7), (9, 0)] {
         check_withdraw(planner, &plant, &book, 0, [48, length], number);
+        check_preview(planner, &plant, &book, 0, length, number);
     }
+}
 
-    // 8: the state and the goal asked for.
+/// 8: the state and the goal asked for.
+fn states_and_goals(planner: &dyn Calls) {
+    let (plant, book) = (bytes_of(&P), bytes_of(&m1_numbers()));
     for (state, goal, number) in [(3, 1, 0), (4, 1, 8), (3, 2, 8), (u32::MAX, 0, 8), (0, u32::MAX, 8), (65536, 0, 8)] {
         check_lookup(planner, &book, state, goal, number);
         check_moves(planner, &plant, &book, state, goal, number);
     }
+}
 
-    // The lowest that applies: each fault added to all those after it.
+/// Each fault added to all those after it.
+fn the_lowest_that_applies(planner: &dyn Calls) {
+    let (plant, book) = (bytes_of(&P), bytes_of(&m1_numbers()));
     let mut faulty_plant = P.to_vec();
-    let mut faulty_book = book_numbers;
+    let mut faulty_book = m1_numbers();
     check_withdraw(planner, &plant, &book, 8, [47, 8], 6);
+    check_preview(planner, &plant, &book, 8, 7, 6);
     faulty_book[8] = 1024;
     check_withdraw(planner, &plant, &bytes_of(&faulty_book), 8, [47, 8], 5);
+    check_preview(planner, &plant, &bytes_of(&faulty_book), 8, 7, 5);
     check_moves(planner, &plant, &bytes_of(&faulty_book), 4, 2, 5);
     check_lookup(planner, &bytes_of(&faulty_book), 4, 2, 5);
     check_moves(planner, &bare(2, 1, 1), &bytes_of(&faulty_book), 4, 2, 4);
     faulty_book[6] = 15;
     check_withdraw(planner, &plant, &bytes_of(&faulty_book), 8, [47, 8], 4);
+    check_preview(planner, &plant, &bytes_of(&faulty_book), 8, 7, 4);
     check_moves(planner, &plant, &bytes_of(&faulty_book), 4, 2, 4);
     check_lookup(planner, &bytes_of(&faulty_book), 4, 2, 4);
     for (at, number, refusal) in [(33, 4, 3), (8, 8, 2), (7, 1, 1)] {
         faulty_plant[at] = number;
         check_withdraw(planner, &bytes_of(&faulty_plant), &bytes_of(&faulty_book), 8, [47, 8], refusal);
+        check_preview(planner, &bytes_of(&faulty_plant), &bytes_of(&faulty_book), 8, 7, refusal);
         check_moves(planner, &bytes_of(&faulty_plant), &bytes_of(&faulty_book), 4, 2, refusal);
         check_make(planner, &bytes_of(&faulty_plant), 8, 47, refusal);
     }

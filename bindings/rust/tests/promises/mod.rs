@@ -1,10 +1,10 @@
-//! What requests (i) and (ii) of document 02 promise of the books that make or withdraw wrote for a plant: which the good
-//! moves are, that any pick from them serves, and what a drop list says of the books before and after. Run on any
-//! planner; nothing is compared with another.
+//! What requests (i), (ii) and (iv) of document 02 promise of the books that make or withdraw wrote for a plant: which
+//! the good moves are, that any pick from them serves, what a drop list says of the books before and after, and that
+//! previews come true. Run on any planner; nothing is compared with another.
 
 use planbook::calls::Calls;
 use planbook::plants::{self, Model, Random, FAMILIES};
-use planbook::second::format::{in_mask, BookView, Plant};
+use planbook::second::format::{in_mask, number, BookView, Plant};
 
 /// Every move of a mask.
 fn moves_of(mask: u32) -> Vec<u16> {
@@ -23,8 +23,20 @@ fn withdraw_listed(planner: &dyn Calls, model: &Model, book: &[u8], mask: u32) -
     let (mut out, mut drops) = (book.to_vec(), vec![0; 2 * model.labels.len()]);
     let answer = planner.withdraw(&model.bytes(), book, mask, &mut out, &mut drops);
     assert_eq!(answer.number, 0);
-    drops.truncate(2 * answer.drops as usize);
-    (out, drops.chunks_exact(2).map(|pair| u16::from_le_bytes([pair[0], pair[1]])).collect())
+    (out, listed(&drops, answer.drops))
+}
+
+/// The states that a withdrawal of the moves of a mask would drop, and how many it would keep.
+fn preview(planner: &dyn Calls, model: &Model, book: &[u8], mask: u32) -> (Vec<u16>, usize) {
+    let mut drops = vec![0; 2 * model.labels.len()];
+    let cost = planner.preview(&model.bytes(), book, mask, &mut drops);
+    assert_eq!(cost.number, 0);
+    (listed(&drops, cost.drops), cost.kept as usize)
+}
+
+/// The first `count` numbers of a drop list.
+fn listed(drops: &[u8], count: u32) -> Vec<u16> {
+    (0..count as usize).map(|at| number(drops, 2 * at)).collect()
 }
 
 /// The book without the moves of a mask.
@@ -70,6 +82,46 @@ pub fn drop_lists_are_read_from_the_books(planner: &dyn Calls) {
     let [none, one, more] = sizes;
     println!("{}: {none} empty drop lists, {one} of one state, {more} of more, {high} past 255", planner.name());
     assert!(none > 1_000 && one > 50 && more > 500 && high > 50);
+}
+
+/// The states whose rows are kept, by rising number.
+fn kept_states(book: &[u8]) -> Vec<u16> {
+    let rows = read(book);
+    (0..rows.states).filter(|&state| rows.is_kept(state)).map(|state| state as u16).collect()
+}
+
+/// Previews come true. For each withdrawal of a list the preview tells which kept rows the book after it has lost, and
+/// how many it has kept; and from the first book, the preview of all these moves at once tells the same of the last.
+pub fn previews_come_true(planner: &dyn Calls) {
+    // How many previews drop no state, drop some and keep others, and drop all.
+    let mut costs = [0; 3];
+    for seed in 0..2_000 {
+        let random = &mut Random::new(seed);
+        let (model, first) = any_book(planner, random);
+        let masks: Vec<u32> = (0..random.from_to(1, 5)).map(|_| 1 << random.below(model.moves.into())).collect();
+        let mut check = |before: &[u8], mask: u32, after: &[u8]| {
+            let (mut dropped, kept) = (kept_states(before), kept_states(after));
+            dropped.retain(|state| !kept.contains(state));
+            let previewed = preview(planner, &model, before, mask);
+            let kind = match (dropped.is_empty(), kept.is_empty()) {
+                (true, _) => 0,
+                (false, false) => 1,
+                (false, true) => 2,
+            };
+            costs[kind] += 1;
+            assert_eq!(previewed, (dropped, kept.len()), "mask {mask:#x} of {masks:x?}, seed {seed}");
+        };
+        let mut book = first.clone();
+        for &mask in &masks {
+            let after = withdraw(planner, &model, &book, mask);
+            check(&book, mask, &after);
+            book = after;
+        }
+        check(&first, masks.iter().fold(0, |all, mask| all | mask), &book);
+    }
+    let [none, some, all] = costs;
+    println!("{}: {none} previews drop no state, {some} drop some and keep others, {all} drop all", planner.name());
+    assert!(none > 1_000 && some > 200 && all > 200);
 }
 
 /// A plant and a mask with a move and move 0 in each other's place.
