@@ -1,4 +1,4 @@
-"""Tests of tools/plant.py, ./run and tools/picture.py. tests/tools.sh runs them."""
+"""Tests of ./run and of plant.py, picture.py and cost.py in tools/. tests/tools.sh runs them."""
 from __future__ import annotations
 
 import os
@@ -11,7 +11,7 @@ import sys
 import tempfile
 import unittest
 import xml.etree.ElementTree as xml
-from typing import Dict, List, Optional, Tuple
+from typing import Dict, List, Optional, Set, Tuple
 
 TOP = os.path.dirname(os.path.dirname(os.path.abspath(__file__)))
 sys.path.insert(0, os.path.join(TOP, "tools"))
@@ -21,7 +21,7 @@ import listing  # noqa: E402
 import plant  # noqa: E402
 
 RUN = os.path.join(TOP, "run")
-PLANT_PY = os.path.join(TOP, "tools", "plant.py")
+PLANT_PY, PICTURE_PY, COST_PY = (os.path.join(TOP, "tools", name) for name in ("plant.py", "picture.py", "cost.py"))
 EXAMPLES = os.path.join(TOP, "examples")
 EXAMPLE_PLANTS = sorted(name for name in os.listdir(EXAMPLES) if name.endswith(".plant"))
 
@@ -53,6 +53,9 @@ class Case(unittest.TestCase):
             file.write(content)
         return self.path(name)
 
+    def example(self, name: str) -> str:
+        return os.path.join(EXAMPLES, name + ".plant")
+
     def program(self, name: str, text: str) -> str:
         """A stand-in for a program: a shell script."""
         path = self.write(name, f"#!/bin/sh\n{text}\n".encode())
@@ -77,6 +80,8 @@ class Case(unittest.TestCase):
         self.assertEqual((code, out), (status, ""), error)
         self.assertEqual(error.count("\n"), 1, error)
         self.assertIn(words, error)
+        by_run = any(os.path.basename(word) == "run" for word in call)
+        self.assertEqual(error.startswith("run: "), by_run, error)
         return error
 
 
@@ -235,9 +240,6 @@ def changed(data: bytes, at: int, number: int) -> bytes:
 
 
 class Run(Case):
-    def example(self, name: str) -> str:
-        return os.path.join(EXAMPLES, name + ".plant")
-
     def test_strip_plant_by_itself_and_by_name(self) -> None:
         self.assertEqual(self.call(RUN), (0, STRIP_LISTING, ""))
         self.assertEqual(self.call(RUN, self.example("strip"), "7", "0x4"), (0, STRIP_LISTING, ""))
@@ -299,18 +301,21 @@ class Run(Case):
     def test_a_planner_that_says_something_else(self) -> None:
         strip = self.example("strip")
         for script, status, words in (("echo bad masks", 1, "bad masks: "), ("echo refused 4", 1, "refused 4: "),
-                                      ("exit 5", 3, "no listing (status 5)"), ("echo hello", 3, "no listing")):
+                                      ("exit 5", 3, "no listing (status 5)"), ("echo hello", 3, "no listing"),
+                                      (f"printf '%s' '{STRIP_LISTING}'; exit 4", 3, "ended with status 4")):
             env = {"PLANBOOK_BIN": self.program("planner", script)}
             self.fails(status, words, RUN, strip, "7", env=env)
             words = words.replace("(status 5)", "").strip()
             self.fails(status, words, RUN, "--picture", self.path("out.html"), strip, "7", env=env)
             self.assertFalse(os.path.exists(self.path("out.html")))
+            self.fails(status, words, RUN, "--cost", strip, "7", "1", env=env)
         self.fails(3, "PLANBOOK_BIN names no program", RUN, strip, "7", env={"PLANBOOK_BIN": self.path("none")})
 
     def test_help_and_options(self) -> None:
         code, out, error = self.call(RUN, "--help")
         self.assertEqual((code, error), (0, ""))
         self.assertIn("--picture OUT.html", out)
+        self.assertIn("--cost PLANT", out)
         self.fails(2, "unknown option --colour", RUN, "--colour")
         self.fails(2, "there is no such file", RUN, "", "7")
 
@@ -394,6 +399,15 @@ class Picture(Case):
         self.assertIn(("4", "0", "edge out"), edges)
         self.assertIn(("3", "2", "edge other"), edges)
 
+    def test_dropped_states_are_those_of_the_cost(self) -> None:
+        for name, masks, dropped in (("strip", "7 4", []), ("may-miss", "0xf 0x2", [0]),
+                                     ("lockout", "0x1f 0x1c", [2, 3, 4]),
+                                     ("gauge-tension", "0x3f 0x22", [20, 21, 22, 23, 24, 26, 27, 28, 29])):
+            _, page = self.draw(self.example(name), *masks.split())
+            self.assertEqual(sorted(self.states(page, "dropped")), dropped)
+            _, out, _ = self.call(RUN, "--cost", self.example(name), *masks.split())
+            self.assertEqual(cost_states(out), dropped)
+
     def test_strip_plant_is_drawn_when_no_plant_is_named(self) -> None:
         self.assertEqual(self.call(RUN, "--picture", self.path("out.html")), (0, "", ""))
         self.assertTrue(os.path.exists(self.path("out.html")))
@@ -432,6 +446,175 @@ class Picture(Case):
         self.assertEqual(os.listdir(self.folder), ["bad.plant"])
 
 
+# What taking the drive side cylinder out costs: it takes part in moves 2, 3 and 4 of examples/lockout.plant.
+LOCKOUT_COST = """would go out of service: move 2 drive side down; move 3 both sides down; move 4 both sides up
+3 of 5 kept states would be dropped, 2 would stay kept
+2  drive side heavy
+3  both sides heavy
+4  centre wave
+"""
+
+
+def strip_cost(moves: str, dropped: int, kept: int, after: int) -> str:
+    """What a lock-out on P costs: none of the states kept, or all of them, which are the first ones."""
+    return f"would go out of service: {moves}\n{dropped} of {kept} kept states would be dropped, " \
+           f"{after} would stay kept\n" + "".join(f"{state}\n" for state in range(dropped))
+
+
+def cost_states(text: str) -> List[int]:
+    """The states that a cost lists."""
+    return [int(line.split()[0]) for line in text.splitlines()[2:]]
+
+
+def kept_states(text: str) -> Set[int]:
+    """The states of a listing that are not lost."""
+    return {int(line.split()[0]) for line in text.splitlines()[1:] if not line.endswith(" lost")}
+
+
+class Cost(Case):
+    """What ./run --cost says. The texts expected are worked out by hand, from document 01's M1 to M4 and the plants."""
+
+    def says(self, expected: str, source: str, masks: str, env: Optional[Dict[str, str]] = None) -> None:
+        self.assertEqual(self.call(RUN, "--cost", source, *masks.split(), env=env), (0, expected, ""))
+
+    def test_marked_examples(self) -> None:
+        strip = self.example("strip")
+        self.says(strip_cost("move 0", 3, 3, 0), strip, "7 1")
+        self.says(strip_cost("move 1", 0, 3, 3), strip, "7 0x2")
+        self.says(strip_cost("move 2", 0, 3, 3), strip, "7 4")
+
+    def test_the_guide_has_the_lockout_of_a_cylinder(self) -> None:
+        self.says(LOCKOUT_COST, self.example("lockout"), "0x1f 0x1c")
+        with open(os.path.join(TOP, "docs", "USING.md"), encoding="utf-8") as file:
+            shown = "$ ./run --cost examples/lockout.plant 0x1f 0x1c\n" + LOCKOUT_COST
+            self.assertIn("".join(f"    {line}\n" for line in shown.splitlines()), file.read())
+
+    def test_only_the_last_mask_is_asked_about(self) -> None:
+        # Without move 2 state 2 is lost already; state 3 has move 3 left and state 4 move 4.
+        self.says("would go out of service: move 3 both sides down; move 4 both sides up\n"
+                  "2 of 4 kept states would be dropped, 2 would stay kept\n3  both sides heavy\n4  centre wave\n",
+                  self.example("lockout"), "0x1f 0x04 0x18")
+
+    def test_moves_that_are_out_already(self) -> None:
+        strip = self.example("strip")
+        self.says(strip_cost("move 0", 3, 3, 0), strip, "7 4 5")
+        self.says(strip_cost("no move", 0, 3, 3), strip, "7 4 4")
+        self.says(strip_cost("no move", 0, 3, 3), strip, "7 0")
+        self.says(strip_cost("no move", 0, 0, 0), strip, "0 7")
+
+    def test_bytes_have_no_names(self) -> None:
+        data = plant.to_bytes(plant.read_plant(self.example("lockout")))
+        self.says("would go out of service: move 2; move 3; move 4\n"
+                  "3 of 5 kept states would be dropped, 2 would stay kept\n2\n3\n4\n",
+                  self.write("lockout.bin", data), "0x1f 0x1c")
+
+    def test_names_and_numbers_in_columns(self) -> None:
+        lines = ["plant states 11 moves 2 goals 1", 'move 1 "¼ turn up"', 'state 9 allowed goal 0 "½ mm, on aim"']
+        lines += [f"state {state} allowed goal 0" for state in range(11) if state != 9]
+        lines += [f"arrow {state} {state // 9} -> {state}" for state in range(11)]
+        self.says("would go out of service: move 1 ¼ turn up\n"
+                  "2 of 11 kept states would be dropped, 9 would stay kept\n 9  ½ mm, on aim\n10\n",
+                  self.write("a.plant", "\n".join(lines).encode()), "3 2", env={"PYTHONIOENCODING": "ascii"})
+
+    def test_the_most_states(self) -> None:
+        largest = plant.Plant(1024, 1, 1, [3] * 1024, [(state, 0, state) for state in range(1024)])
+        expected = "would go out of service: move 0\n1024 of 1024 kept states would be dropped, 0 would stay kept\n"
+        expected += "".join(f"{state:>4}\n" for state in range(1024))
+        code, out, error = self.call(RUN, "--cost", self.write("a.bin", plant.to_bytes(largest)), "1", "1")
+        self.assertEqual((code, error), (0, ""))
+        self.assertTrue(out == expected, out[:200])
+
+    def test_how_many_masks(self) -> None:
+        strip = self.example("strip")
+        self.fails(2, "--cost needs a plant, the moves in service and the lock-out", RUN, "--cost")
+        for masks in ([], ["7"]):
+            self.fails(2, "at least two masks, the moves in service first and the lock-out last",
+                       RUN, "--cost", strip, *masks)
+        self.says(strip_cost("move 0", 3, 3, 0), strip, "7" + " 4" * 14 + " 1")
+        self.fails(2, "17 masks are too many", RUN, "--cost", strip, "7", *["4"] * 15, "1")
+
+    def test_bad_masks_and_files(self) -> None:
+        strip = self.example("strip")
+        for masks in (["x", "1"], ["7", "x"], ["7", "4294967296"]):
+            self.fails(2, "is no mask", RUN, "--cost", strip, *masks)
+        for masks in (["8", "1"], ["7", "8"], ["7", "8", "1"], ["7", "0xffffffff"]):
+            self.fails(1, "refused 6: a mask names a move", RUN, "--cost", strip, *masks)
+        self.fails(2, "there is no such file", RUN, "--cost", self.path("none.plant"), "7", "1")
+        self.fails(2, "is not a file", RUN, "--cost", self.folder, "7", "1")
+        self.fails(2, "bad.plant:3: ", RUN, "--cost", self.write("bad.plant", b"\n\nx\n"), "7", "1")
+        data = plant.to_bytes(plant.read_plant(strip))
+        for number, bad in ((1, data[:-4]), (2, changed(data, 8, 8)), (3, changed(data, 12, 4))):
+            self.fails(2, f"refuses this with {number}", RUN, "--cost", self.write("a.bin", bad), "7", "1")
+
+    def test_no_python_and_no_planner(self) -> None:
+        source = self.write("a.bin", plant.to_bytes(plant.read_plant(self.example("strip"))))
+        self.fails(3, "python3 is needed for the cost of a lock-out", shutil.which("bash") or "", RUN, "--cost", source,
+                   "7", "1", env={"PATH": self.few_tools()})
+        env = {"PLANBOOK_BIN": self.path("none")}
+        self.fails(3, "PLANBOOK_BIN names no program", RUN, "--cost", source, "7", "1", env=env)
+        self.fails(3, "planbook is not there", COST_PY, source, "7", "1", env=env)
+
+    def test_listings_that_do_not_add_up(self) -> None:
+        first = "3 of 4 kept, 3 moves in service\n0 0 0 0\n0 1 2 0\n1 0 1 2\n1 1 1 0\n2 0 1 0\n2 1 0 0\n3 lost\n"
+        last = "0 of 4 kept, 2 moves in service\n0 lost\n1 lost\n2 lost\n3 lost\n"
+        strip, out = self.example("strip"), self.path("out.html")
+        self.says(strip_cost("move 0", 3, 3, 0), strip, "7 1", env=self.two_listings(first, last))
+        swapped = last.replace("2 moves", "3 moves"), first.replace("3 moves", "2 moves")
+        for before, after, words in ((*swapped, "state 0 is lost before a withdrawal and kept after it"),
+                                     (first.replace("3 of", "4 of"), last, "does not add up"),
+                                     (first, last.replace("0 of", "1 of"), "does not add up"),
+                                     (first.replace("3 moves", "2 moves"), last, "other moves in service"),
+                                     (first, last.replace("2 moves", "3 moves"), "other moves in service")):
+            env = self.two_listings(before, after)
+            self.fails(3, words, RUN, "--cost", strip, "7", "1", env=env)
+            self.fails(3, words, RUN, "--picture", out, strip, "7", "1", env=env)
+            self.assertFalse(os.path.exists(out))
+
+    def two_listings(self, before: str, after: str) -> Dict[str, str]:
+        """A stand-in planner with a listing for P and one mask, 76 bytes, and another for P and more."""
+        script = f"if [ $(wc -c) -eq 76 ]; then printf '%s' '{before}'; else printf '%s' '{after}'; fi"
+        return {"PLANBOOK_BIN": self.program("planner", script)}
+
+    def test_dropped_states_are_the_difference_of_two_listings(self) -> None:
+        pick = random.Random(1)
+        shares = set()
+        for name in EXAMPLE_PLANTS:
+            source = os.path.join(EXAMPLES, name)
+            moves = plant.read_plant(source).moves
+            for count in (2, 2, 3, 3):
+                masks = [str((1 << moves) - 1)] + [str(1 << pick.randrange(moves)) for _ in range(count - 1)]
+                before, after = (kept_states(self.call(RUN, source, *some)[1]) for some in (masks[:-1], masks))
+                code, out, error = self.call(RUN, "--cost", source, *masks)
+                self.assertEqual((code, error, cost_states(out)), (0, "", sorted(before - after)), (name, masks))
+                self.assertEqual(out.splitlines()[1], f"{len(before - after)} of {len(before)} kept states would be "
+                                 f"dropped, {len(after)} would stay kept")
+                shares.add("none" if before == after else "some" if after else "all")
+        self.assertEqual(shares, {"none", "some", "all"})
+
+
+class Commands(Case):
+    """picture.py and cost.py by themselves, without ./run."""
+
+    def test_help_and_usage(self) -> None:
+        for path, call in ((PICTURE_PY, "picture.py OUT.html PLANT MASK [MASK...]"),
+                           (COST_PY, "cost.py PLANT MASK [MASK...] MASK")):
+            for word in ("-h", "--help"):
+                code, out, error = self.call(path, word)
+                self.assertEqual((code, error, out.splitlines()[2]), (0, "", "    " + call))
+            self.fails(2, f"usage: {call}\n", path)
+            self.fails(2, f"usage: {call}\n", path, "one", "two")
+
+    def test_masks(self) -> None:
+        strip, out = self.example("strip"), self.path("out.html")
+        for start in ([PICTURE_PY, out, strip], [COST_PY, strip]):
+            self.fails(2, "'7x' is no mask", *start, "7", "7x")
+            self.fails(2, "17 masks are too many: a list has at most 16", *start, *["7"] * 17)
+            self.fails(1, "refused 6: a mask names a move", *start, "7", "8")
+            self.assertFalse(os.path.exists(out))
+        self.assertEqual(self.call(PICTURE_PY, out, strip, *["7"] * 16), (0, "", ""))
+        self.assertEqual(self.call(COST_PY, strip, "7", *["4"] * 14, "1"), (0, strip_cost("move 0", 3, 3, 0), ""))
+
+
 class Listing(Case):
     def test_a_listing_that_does_not_add_up_is_noticed(self) -> None:
         read = plant.read_plant(os.path.join(EXAMPLES, "strip.plant"))
@@ -446,7 +629,7 @@ class Listing(Case):
         self.assertEqual([listing.mask_from(text) for text in ("7", "0x1C", "0010", "4294967295", "x", "1_0", "0x")],
                          [7, 28, 10, 4294967295, None, None, None])
         self.assertEqual(facts.ranges([0, 2, 3, 4, 7, 8]), "0, 2 to 4, 7, 8")
-        self.assertEqual(facts.service([7, 4, 4]), 3)
+        self.assertEqual(listing.service([7, 4, 4]), 3)
 
     def test_the_guide_has_every_refusal(self) -> None:
         with open(os.path.join(TOP, "docs", "USING.md"), encoding="utf-8") as file:

@@ -1,10 +1,10 @@
-"""What a picture shows: a plant, the masks, and the books after the first mask and after all of them."""
+"""What a picture shows: a plant, the masks, the book after all of them and the states dropped since the first."""
 from __future__ import annotations
 
 from dataclasses import dataclass
-from typing import Dict, List, Sequence, Tuple
+from typing import Dict, List, Sequence, Set, Tuple
 
-from listing import Book, Entry, PlannerError, book, ends_of
+from listing import Book, Entry, book, dropped, ends_of, service
 from plant import Plant
 
 KEPT, DROPPED, LOST, NOT_ALLOWED = "kept", "dropped", "lost", "not-allowed"
@@ -16,7 +16,7 @@ class Facts:
     title: str
     plant: Plant
     masks: List[int]
-    first: Book
+    dropped: Set[int]
     last: Book
     ends: Dict[Tuple[int, int], List[int]]
 
@@ -27,7 +27,7 @@ class Facts:
         """Kept in the last book; dropped: kept in the first book only; lost in both; or not allowed at all."""
         if state in self.last.rows:
             return KEPT
-        if state in self.first.rows:
+        if state in self.dropped:
             return DROPPED
         return LOST if self.plant.allowed(state) else NOT_ALLOWED
 
@@ -62,24 +62,20 @@ class Facts:
                f"{self.move_text(entry.move)}, leads to {ends}"
 
 
-def service(masks: Sequence[int]) -> int:
-    """The moves in service after all masks."""
-    mask = masks[0]
-    for withdrawn in masks[1:]:
-        mask &= ~withdrawn
-    return mask
-
-
 def gather(title: str, plant: Plant, masks: List[int]) -> Facts:
     """Two runs of planbook: with the first mask alone, and with all."""
     first, last = book(plant, masks[:1]), book(plant, masks)
-    if bin(service(masks)).count("1") != last.in_service:
-        raise PlannerError("planbook counts other moves in service than these masks leave")
-    return Facts(title, plant, masks, first, last, ends_of(plant))
+    return Facts(title, plant, masks, set(dropped(first, last)), last, ends_of(plant))
 
 
 def named(kind: str, number: int, names: Dict[int, str]) -> str:
     return f"{kind} {number} {names[number]}" if number in names else f"{kind} {number}"
+
+
+def move_list(plant: Plant, mask: int) -> str:
+    """The plant's moves in a mask, with their names; a name may have a comma in it."""
+    moves = [named("move", move, plant.move_names) for move in range(plant.moves) if mask >> move & 1]
+    return "; ".join(moves) or "no move"
 
 
 def ranges(numbers: Sequence[int]) -> str:

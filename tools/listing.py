@@ -6,7 +6,7 @@ import re
 import struct
 import subprocess
 from dataclasses import dataclass
-from typing import Dict, List, Optional, Tuple
+from typing import Dict, List, Optional, Sequence, Tuple
 
 from plant import Plant, to_bytes
 
@@ -46,6 +46,14 @@ def mask_from(text: str) -> Optional[int]:
     return None
 
 
+def service(masks: Sequence[int]) -> int:
+    """The moves in service after all masks."""
+    mask = masks[0]
+    for withdrawn in masks[1:]:
+        mask &= ~withdrawn
+    return mask
+
+
 def planner() -> str:
     """The planner's path: PLANBOOK_BIN where it is set, else the one built in this repository."""
     path = os.environ.get("PLANBOOK_BIN") or os.path.join(TOP, "target", "bin", "planbook")
@@ -67,7 +75,12 @@ def book(plant: Plant, masks: List[int]) -> Book:
         raise Refused(f"bad masks: planbook takes 1 to {MAX_MASKS} whole masks after the plant")
     if first.startswith("refused "):
         raise Refused(f"{first}: {meaning(first.split()[1])}")
-    return parsed(plant, lines)
+    found = parsed(plant, lines)
+    if done.returncode != 0:
+        raise PlannerError(f"planbook ended with status {done.returncode}")
+    if bin(service(masks)).count("1") != found.in_service:
+        raise PlannerError("planbook counts other moves in service than these masks leave")
+    return found
 
 
 def meaning(number: str) -> str:
@@ -102,6 +115,16 @@ def entry(line: List[str], state: int, goal: int) -> Entry:
     if not found:
         raise PlannerError(f"planbook's listing has no line for state {state}, goal {goal}")
     return Entry(int(found[1]), int(found[2]))
+
+
+def dropped(before: Book, after: Book) -> List[int]:
+    """The states kept before a withdrawal and lost after it, by rising number."""
+    # No state is kept after it alone. So those dropped and those kept after it add up to those kept before.
+    gained = sorted(set(after.rows) - set(before.rows))
+    if gained:
+        raise PlannerError("planbook's listings do not add up: "
+                           f"state {gained[0]} is lost before a withdrawal and kept after it")
+    return sorted(set(before.rows) - set(after.rows))
 
 
 def ends_of(plant: Plant) -> Dict[Tuple[int, int], List[int]]:

@@ -13,9 +13,10 @@ import sys
 from html import escape
 from typing import List
 
+from command import masks_from, run_command
 from drawing import FEW, Diagram, grid, markers
-from facts import DROPPED, KEPT, LOST, NOT_ALLOWED, Facts, gather, ranges
-from listing import MAX_MASKS, PlannerError, Refused, mask_from
+from facts import DROPPED, KEPT, LOST, NOT_ALLOWED, Facts, gather, move_list, ranges
+from listing import service
 from plant import PlantError, read_plant, write_file
 
 # Plants with more than this are shown as a grid of cells.
@@ -68,11 +69,10 @@ def summary(facts: Facts) -> List[str]:
     masks = facts.masks
     made = f"Made with mask {masks[0]} (0x{masks[0]:x})"
     withdrawn = ", then withdrawn: " + ", ".join(f"{mask} (0x{mask:x})" for mask in masks[1:]) if masks[1:] else ""
-    moves = range(facts.plant.moves)
-    inside = [escape(facts.move_text(move)) for move in moves if facts.in_service(move)]
-    outside = [escape(facts.move_text(move)) for move in moves if not facts.in_service(move)]
-    parts = [f'<p>{made}{withdrawn}.</p>', f'<p><b>In service:</b> {"; ".join(inside) or "no move"}.<br/>'
-             f'<b>Out of service:</b> {"; ".join(outside) or "no move"}.</p>', '<div class="counts">']
+    inside = escape(move_list(facts.plant, service(masks)))
+    outside = escape(move_list(facts.plant, ~service(masks)))
+    parts = [f'<p>{made}{withdrawn}.</p>', f'<p><b>In service:</b> {inside}.<br/><b>Out of service:</b> {outside}.</p>',
+             '<div class="counts">']
     for kind, text in ((KEPT, "kept"), (DROPPED, "dropped"), (LOST, "lost from the start"),
                        (NOT_ALLOWED, "not allowed")):
         parts.append(f'<div class="count {kind}"><b>{len(facts.of_kind(kind))}</b>{text}</div>')
@@ -162,17 +162,7 @@ def table_entry(facts: Facts, state: int, goal: int) -> str:
     return f"<b>{entry.wait}</b>, {escape(facts.move_text(entry.move))} → {ends}"
 
 
-def masks_from(words: List[str]) -> List[int]:
-    if not 1 <= len(words) <= MAX_MASKS:
-        raise PlantError(f"give 1 to {MAX_MASKS} masks, found {len(words)}")
-    masks = [mask_from(word) for word in words]
-    for word, mask in zip(words, masks):
-        if mask is None:
-            raise PlantError(f"'{word}' is no mask: give a number from 0 to 4294967295, decimal or 0x hex")
-    return [mask for mask in masks if mask is not None]
-
-
-def draw(out: str, source: str, words: List[str]) -> None:
+def draw(out: str, source: str, *words: str) -> None:
     masks = masks_from(words)
     if os.path.realpath(out) == os.path.realpath(source):
         raise PlantError(f"{out}: is the plant; give another name for the picture")
@@ -180,20 +170,5 @@ def draw(out: str, source: str, words: List[str]) -> None:
     write_file(out, page(facts).encode())
 
 
-def main(words: List[str]) -> int:
-    if words in (["-h"], ["--help"]):
-        print((__doc__ or "").strip())
-        return 0
-    if len(words) < 3:
-        print("usage: picture.py OUT.html PLANT MASK [MASK...]", file=sys.stderr)
-        return 2
-    try:
-        draw(words[0], words[1], words[2:])
-    except (PlantError, Refused, PlannerError) as error:
-        print(f"picture: {error}", file=sys.stderr)
-        return {Refused: 1, PlantError: 2, PlannerError: 3}[type(error)]
-    return 0
-
-
 if __name__ == "__main__":
-    sys.exit(main(sys.argv[1:]))
+    sys.exit(run_command(__doc__, 3, draw, sys.argv[1:]))
