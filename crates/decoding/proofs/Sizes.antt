@@ -1,4 +1,5 @@
--- The ranges of the numbers of states, moves and goals in plants and books. Assumes nothing.
+-- The ranges of the numbers of states, moves and goals in plants and books, and how long a book can be. Assumes
+-- nothing.
 use Prim.Native.Nat.{ℕ, _*_, _≤_}
 use native.Mathlib.Nat.{mul-le-mul}
 use native.Mathlib.Omega.{arith}

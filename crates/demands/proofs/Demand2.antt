@@ -1,8 +1,9 @@
 -- Demand 2: the books of a making and of a withdrawal from any book are right, being books within a test that holds at
--- states alone; the drop list is a filter of the states kept before, so that it rises. Assumes nothing.
+-- states alone; the drop list is a filter of the states kept before, so that it rises, and the states still kept are
+-- the others. Assumes nothing.
 use mathlib.Core.Path.{_≡_, sym, ap, _∙_}
 use mathlib.Core.Logic.{_↔_}
-use mathlib.Core.Bool.{Bool, true, false, not, _&&_}
+use mathlib.Core.Bool.{true, false, not, _&&_}
 use mathlib.Core.List.{List}
 use Prim.Native.Nat.{ℕ, _+_, _<_}
 use native.Mathlib.Omega.{arith}
@@ -77,21 +78,24 @@ module _ (s b : List ℕ) (gone room drops : ℕ) (h : withdrawFault s b gone ro
       let w = kept-within p (lessMask (bookMask b) gone) (keptBefore p b) x k .1 in
       not-true (isLost b x) (and-right (allowed p x) _ w)
 
-  -- so that of the states kept before those still kept are all that the new book keeps
+  -- so that to be kept in both books is to be kept in the new one
+  kept-both : (x : ℕ) → isIn x (numbers (bookStates b) 0) ≡ true
+      → (not (isLost b x) && not (isLost After x)) ≡ not (isLost After x)
+  kept-both x m =
+      let below : x < plantOf s .states =
+      omega (arith, numbers-holds (bookStates b) 0 x m, withdraw-ok s b gone room drops h .states) in
+      same-test (not (isLost b x) && not (isLost After x)) (not (isLost After x))
+      (and-right (not (isLost b x)) (not (isLost After x)))
+      (λ k. and-true (ap not (kept-before x below (not-true (isLost After x) k))) k)
+
+  -- and of the states kept before those still kept are all that the new book keeps
   still-kept : filter (λ x. not (isLost After x)) (bookKept b) ≡ bookKept After
   unfolding bookKept
   still-kept =
-      let was : ℕ → Bool = λ x. not (isLost b x) in
-      let is : ℕ → Bool = λ x. not (isLost After x) in
-      let both : (x : ℕ) → isIn x (numbers (bookStates b) 0) ≡ true → (was x && is x) ≡ is x =
-      λ x m.
-      let l : x < plantOf s .states =
-      omega (arith, numbers-holds (bookStates b) 0 x m, withdraw-ok s b gone room drops h .states) in
-      same-test (was x && is x) (is x) (and-right (was x) (is x))
-      (λ k. and-true (ap not (kept-before x l (not-true (isLost After x) k))) k) in
-      filter-filter is was (numbers (bookStates b) 0)
-      ∙ filter-same (λ x. was x && is x) is (numbers (bookStates b) 0) both
-      ∙ ap (λ (n : ℕ). filter is (numbers n 0))
+      let all = numbers (bookStates b) 0 in
+      filter-filter (λ x. not (isLost After x)) (λ x. not (isLost b x)) all
+      ∙ filter-same (λ x. not (isLost b x) && not (isLost After x)) (λ x. not (isLost After x)) all kept-both
+      ∙ ap (λ (n : ℕ). filter (λ x. not (isLost After x)) (numbers n 0))
       (withdraw-ok s b gone room drops h .states ∙ sym (new .states))
 
   -- the states dropped and those still kept

@@ -30,19 +30,20 @@ makeFault s mask room =
 unfoldable pub alike : Plant → List ℕ → Bool
 alike p b = eqb (bookStates b) (p .states) && (eqb (bookMoves b) (p .moves) && eqb (bookGoals b) (p .goals))
 
--- what withdraw and preview answer to what is lent for reading, a plant's bytes, a book and a mask: 1 to 6, or 0
+-- what withdraw and preview answer to a plant's bytes, a book and a mask, whatever their buffers: 1 to 6, or 0
 unfoldable pub lentFault : List ℕ → List ℕ → ℕ → ℕ
 lentFault s b gone =
     let p = plantOf s in
     firstOf (plantFault s)
     (firstOf (when (not (bookHeadOk b && alike p b)) 4) (firstOf (bookFault b) (maskFault p gone)))
 
--- and with their buffers' lengths: 1 to 7, or 0; preview has the drop buffer alone
+-- what withdraw answers, its buffers' lengths taken in: 1 to 7, or 0
 unfoldable pub withdrawFault : List ℕ → List ℕ → ℕ → ℕ → ℕ → ℕ
 withdrawFault s b gone room drops =
     let p = plantOf s in
     firstOf (lentFault s b gone) (when (not (bookRoom p room && dropRoom p drops)) 7)
 
+-- what preview answers: 1 to 7, or 0, 7 being for the drop buffer alone
 unfoldable pub previewFault : List ℕ → List ℕ → ℕ → ℕ → ℕ
 previewFault s b gone drops = firstOf (lentFault s b gone) (when (not (dropRoom (plantOf s) drops)) 7)
 
