@@ -1,4 +1,5 @@
-"""Runs planbook on a plant and masks, and reads the listing it prints. Nothing about a book is worked out here."""
+"""Runs planbook on a plant and masks, and reads the listing it prints. Nothing about a book is worked out here;
+which states a withdrawal drops is read off two listings."""
 from __future__ import annotations
 
 import os

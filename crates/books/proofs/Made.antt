@@ -118,6 +118,12 @@ module _ (s : List ℕ) (mask : ℕ) (o : List ℕ) where
         book = eo ∙ w .1;
       }
 
+-- the length of the book of a withdrawal
+pub withdrawn-length : (p : Plant) (b : List ℕ) (gone : ℕ)
+    → length (withdrawnBook p b gone) ≡ bookLong (p .states) (p .goals)
+unfolding withdrawnBook
+withdrawn-length p b gone = within-length p (lessMask (bookMask b) gone) (keptBefore p b)
+
 -- what withdraw answers
 module _ (s b : List ℕ) (gone : ℕ) (o d : List ℕ) where
   -- refused
@@ -132,11 +138,6 @@ module _ (s b : List ℕ) (gone : ℕ) (o d : List ℕ) where
         book = rw no;
         list = rw no;
       }
-
-  -- the length of the book
-  withdrawn-length : length (withdrawnBook (plantOf s) b gone) ≡ bookLong (plantOf s .states) (plantOf s .goals)
-  unfolding withdrawnBook
-  withdrawn-length = within-length (plantOf s) (lessMask (bookMask b) gone) (keptBefore (plantOf s) b)
 
   -- accepted: the book within the allowed states that the old book keeps is written, for the old mask less the moves
   -- withdrawn, and the states dropped, by what is read back of it
@@ -155,7 +156,7 @@ module _ (s b : List ℕ) (gone : ℕ) (o d : List ℕ) where
       let less : old - bitAnd old gone ≡ lessMask (bookMask b) gone = ap (λ (m : ℕ). lessMask m gone) em in
       let w = within-written s (old - bitAnd old gone) (keptBefore p b) start o (h ∙ kept-before p b (ok .states))
       (ok .plant) (ok .room-ok) in
-      let size : long ≡ length new = el ∙ w .0 ∙ sym withdrawn-length in
+      let size : long ≡ length new = el ∙ w .0 ∙ sym (withdrawn-length p b gone) in
       let wrote : o′ ≡ over new o =
       eo ∙ w .1 ∙ ap (λ (m : ℕ). over (bookWithin p m (keptBefore p b)) o) less in
       let back : take long o′ ≡ new = ap (take long) wrote ∙ over-back new o long size in

@@ -9,8 +9,7 @@ use lib.ListN.{length}
 use borrow.Author.Tests.{eq-eqb}
 use Rattle.statements.specs.Sets.{pick, over}
 use Rattle.statements.specs.Plants.{word, plantOf}
-use Rattle.statements.specs.Books.{bytesOf, bookLong, bookCount, bookMask, lessMask, keptBefore, withdrawnBook}
-use Rattle.statements.specs.Books.{droppedStates}
+use Rattle.statements.specs.Books.{bytesOf, bookLong, bookCount, withdrawnBook, droppedStates}
 use Rattle.statements.specs.Calls.{withdrawFault}
 use Rattle.sets.proofs.Over.{over-first}
 use Rattle.decoding.proofs.Faults.{preview-as, preview-as-longest}
@@ -19,7 +18,7 @@ use Rattle.books.specs.declared.Answer.{Answer}
 use Rattle.books.specs.declared.Cost.{Cost}
 use Rattle.books.specs.Says.{WithdrawSays, PreviewSays}
 use Rattle.books.specs.Previews.{Previews}
-use Rattle.books.proofs.Made.{within-length}
+use Rattle.books.proofs.Made.{withdrawn-length}
 use Rattle.books.proofs.Listed.{list-read, lists, book-read, drops-are, list-is}
 
 -- K of a book written over the first of a buffer
@@ -39,14 +38,14 @@ kept-is false b o o′ h z e = ap bookCount e ∙ z
 pub preview-done : {s b : List ℕ} {gone : ℕ} {o o′ d d′ : List ℕ} {r : Answer} (kept : ℕ)
     → WithdrawSays s b gone o o′ d d′ r → length o ≡ 32784 → bookCount o ≡ 0 → kept ≡ bookCount o′
     → PreviewSays s b gone d d′ (record { number = r .number; drops = r .drops; kept = kept })
-unfolding withdrawnBook bookLong
+unfolding bookLong
 preview-done {s} {b} {gone} {o} {o′} {d} {d′} {r} kept says long zeros e =
-    let p = plantOf s in
-    let size = within-length p (lessMask (bookMask b) gone) (keptBefore p b) in
+    let new = withdrawnBook (plantOf s) b gone in
+    let header : 16 ≤ length new = omega (arith, withdrawn-length (plantOf s) b gone) in
     record {
       number = says .number ∙ sym (preview-as-longest s b gone (length o) (length d) long);
       drops = says .drops;
-      kept = e ∙ kept-is (eqb (r .number) 0) (withdrawnBook p b gone) o o′ (omega (arith, size)) zeros (says .book);
+      kept = e ∙ kept-is (eqb (r .number) 0) new o o′ header zeros (says .book);
       list = says .list;
     }
 
