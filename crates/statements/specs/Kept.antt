@@ -1,7 +1,7 @@
 -- Kept states and waits, as a solver computes them: by growing and shrinking sets. A state is kept when it is in the
 -- winning region of the game with the goal "always allowed, and each goal again and again" (generalized Büchi); its
 -- wait for a goal is its rank in the attractor of that goal's kept states. Demands.antt ties both to strategies.
-use mathlib.Core.Bool.{Bool, false, _&&_, _||_}
+use mathlib.Core.Bool.{Bool, _&&_, _||_}
 use mathlib.Core.List.{List}
 use Prim.Native.Nat.{ℕ, zero, suc}
 use lib.Dec.{eqb, ltb}

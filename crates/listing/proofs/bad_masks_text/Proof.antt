@@ -5,9 +5,6 @@ use Rattle.listing.proofs.Writing.{placed-none, placed-whole}
 use borrow.Author.Needs.{needs}
 use Rattle.listing.proofs.bad_masks_text.Statement.{statement}
 use Rattle.listing.proofs.bad_masks_text.Tie as tie
-use Rattle.listing.proofs.bad_masks_text.Reads as reads
-use Rattle.listing.proofs.bad_masks_text.Lts as lts
-use Rattle.listing.proofs.text.put_text.Reads as put-text-reads
 
 returns : tie.Need-returns
 unfolding badMasksText

@@ -12,10 +12,6 @@ use Rattle.listing.proofs.Texts.{text-most, listed, not-listed}
 use borrow.Author.Needs.{needs}
 use Rattle.listing.proofs.list_book.Statement.{statement}
 use Rattle.listing.proofs.list_book.Tie as tie
-use Rattle.listing.proofs.list_book.Reads as reads
-use Rattle.listing.proofs.list_book.Lts as lts
-use Rattle.rows.proofs.book_fault.Reads as book-fault-reads
-use Rattle.listing.proofs.text.put_book.Reads as put-book-reads
 
 book-fault-requires : tie.Need-book-fault-requires
 book-fault-requires c κs = search needs

@@ -7,9 +7,6 @@ use Rattle.listing.proofs.Writing.{counted-short, counted-whole}
 use borrow.Author.Needs.{needs}
 use Rattle.listing.proofs.refused_text.Statement.{statement}
 use Rattle.listing.proofs.refused_text.Tie as tie
-use Rattle.listing.proofs.refused_text.Reads as reads
-use Rattle.listing.proofs.refused_text.Lts as lts
-use Rattle.listing.proofs.text.put_refused.Reads as put-refused-reads
 
 slice-relend-prefix-put-refused : tie.Need-slice-relend-prefix-put-refused
 slice-relend-prefix-put-refused c = search needs

@@ -11,11 +11,6 @@ use Rattle.listing.proofs.Writing.{PartsLeft, parts-start, parts-turn, 
 use Rattle.listing.proofs.Texts.{book-long, book-wrote}
 use Rattle.listing.proofs.text.put_book.Statement.{statement}
 use Rattle.listing.proofs.text.put_book.Tie as tie
-use Rattle.listing.proofs.text.put_book.Reads as reads
-use Rattle.listing.proofs.text.put_book.Lts as lts
-use Rattle.format.proofs.word.number.Reads as number-reads
-use Rattle.listing.proofs.text.put_head.Reads as put-head-reads
-use Rattle.listing.proofs.text.put_state.Reads as put-state-reads
 
 abbrev Inv-loop : tie.InvT-loop
 Inv-loop out₀ book states next₀ state₀ out next state = PartsLeft (stateText book) states out₀ next₀ state next out

@@ -4,9 +4,6 @@ use Rattle.listing.specs.Text.{lastDigit}
 use borrow.Author.Needs.{needs}
 use Rattle.listing.proofs.text.put_digit.Statement.{statement}
 use Rattle.listing.proofs.text.put_digit.Tie as tie
-use Rattle.listing.proofs.text.put_digit.Reads as reads
-use Rattle.listing.proofs.text.put_digit.Lts as lts
-use Rattle.listing.proofs.text.put.Reads as put-reads
 
 cast-put : tie.Need-cast-put
 cast-put c = search needs

@@ -7,10 +7,6 @@ use Rattle.listing.proofs.Writing.{wrote-then}
 use borrow.Author.Needs.{needs}
 use Rattle.listing.proofs.text.put_figure.Statement.{statement}
 use Rattle.listing.proofs.text.put_figure.Tie as tie
-use Rattle.listing.proofs.text.put_figure.Reads as reads
-use Rattle.listing.proofs.text.put_figure.Lts as lts
-use Rattle.listing.proofs.text.put_digits.Reads as put-digits-reads
-use Rattle.listing.proofs.text.put_text.Reads as put-text-reads
 
 put-digits-requires : tie.Need-put-digits-requires
 unfolding figure

@@ -10,11 +10,6 @@ use Rattle.listing.proofs.Texts.{head-long}
 use borrow.Author.Needs.{needs}
 use Rattle.listing.proofs.text.put_head.Statement.{statement}
 use Rattle.listing.proofs.text.put_head.Tie as tie
-use Rattle.listing.proofs.text.put_head.Reads as reads
-use Rattle.listing.proofs.text.put_head.Lts as lts
-use Rattle.rows.proofs.mask.Reads as mask-reads
-use Rattle.format.proofs.word.number.Reads as number-reads
-use Rattle.listing.proofs.text.put_figure.Reads as put-figure-reads
 
 number-requires : tie.Need-number-requires
 number-requires c κs = search needs

@@ -8,11 +8,6 @@ use Rattle.listing.proofs.Texts.{line-long}
 use borrow.Author.Needs.{needs}
 use Rattle.listing.proofs.text.put_line.Statement.{statement}
 use Rattle.listing.proofs.text.put_line.Tie as tie
-use Rattle.listing.proofs.text.put_line.Reads as reads
-use Rattle.listing.proofs.text.put_line.Lts as lts
-use Rattle.rows.proofs.move_at.Reads as move-at-reads
-use Rattle.rows.proofs.wait_at.Reads as wait-at-reads
-use Rattle.listing.proofs.text.put_figure.Reads as put-figure-reads
 
 wait-at-requires : tie.Need-wait-at-requires
 wait-at-requires c κs = search needs

@@ -6,10 +6,6 @@ use Rattle.listing.proofs.Writing.{wrote-then}
 use borrow.Author.Needs.{needs}
 use Rattle.listing.proofs.text.put_refused.Statement.{statement}
 use Rattle.listing.proofs.text.put_refused.Tie as tie
-use Rattle.listing.proofs.text.put_refused.Reads as reads
-use Rattle.listing.proofs.text.put_refused.Lts as lts
-use Rattle.listing.proofs.text.put_figure.Reads as put-figure-reads
-use Rattle.listing.proofs.text.put_text.Reads as put-text-reads
 
 slice-aggregate-put-text : tie.Need-slice-aggregate-put-text
 slice-aggregate-put-text c = search needs

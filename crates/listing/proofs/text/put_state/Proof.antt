@@ -13,12 +13,6 @@ use Rattle.listing.proofs.Writing.{PartsLeft, parts-start, parts-turn, 
 use Rattle.listing.proofs.Texts.{state-lost, state-held}
 use Rattle.listing.proofs.text.put_state.Statement.{statement}
 use Rattle.listing.proofs.text.put_state.Tie as tie
-use Rattle.listing.proofs.text.put_state.Reads as reads
-use Rattle.listing.proofs.text.put_state.Lts as lts
-use Rattle.rows.proofs.is_lost.Reads as is-lost-reads
-use Rattle.format.proofs.word.number.Reads as number-reads
-use Rattle.listing.proofs.text.put_figure.Reads as put-figure-reads
-use Rattle.listing.proofs.text.put_line.Reads as put-line-reads
 
 abbrev Inv-loop : tie.InvT-loop
 Inv-loop out₀ at book state goals next₀ goal₀ out next goal =

@@ -7,9 +7,6 @@ use denote.Ref.{now}
 use Rattle.listing.proofs.Writing.{Left, text-start, left-wrote, left-end, rest-cons}
 use Rattle.listing.proofs.text.put_text.Statement.{statement}
 use Rattle.listing.proofs.text.put_text.Tie as tie
-use Rattle.listing.proofs.text.put_text.Reads as reads
-use Rattle.listing.proofs.text.put_text.Lts as lts
-use Rattle.listing.proofs.text.put.Reads as put-reads
 
 abbrev Inv-loop : tie.InvT-loop
 Inv-loop out₀ at text i₀ out i = (i ≤ length text) × Left out₀ at text (drop i text) (at + i) out
