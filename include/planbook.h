@@ -52,13 +52,17 @@ typedef struct {
     uint32_t kept;   /* states that would be kept: K of the book that withdraw would write */
 } planbook_cost;
 
-/* What consult answers. */
+/*
+ * What consult answers. The goal arrived at is the first, from the goal sought onward in turn, that the state does not
+ * serve: whose wait in the state's row is not 0. After the last goal comes the first. If the state serves all of them,
+ * it is the goal sought.
+ */
 typedef struct {
     uint32_t number; /* 0, or why it was refused */
     uint32_t lost;   /* 1 when the state is lost; the fields below are then 0 */
-    uint32_t move;   /* the move to make, below U */
-    uint32_t wait;   /* the most moves it can take to the goal sought; 0 in the goal */
-    uint32_t seek;   /* the goal to seek next: the same one, or at wait 0 the next, after the last the first */
+    uint32_t move;   /* the move to make for the goal arrived at, below U */
+    uint32_t wait;   /* the most moves it can take to that goal; 0 when the state serves all goals */
+    uint32_t seek;   /* the goal arrived at: hand it in as the goal sought in the state that follows */
 } planbook_advice;
 
 /* What row answers: a part of the book lent. */
@@ -71,7 +75,7 @@ typedef struct {
 /* What moves answers. */
 typedef struct {
     uint32_t number; /* 0, or why it was refused */
-    uint32_t mask;   /* every good move (bit u is move u); 0 when the state is lost */
+    uint32_t mask;   /* every good move for the goal arrived at (bit u is move u); 0 when the state is lost */
 } planbook_mask;
 
 /* Makes the book of a plant with the moves of a mask in service (bit u is move u). Refusals 1, 2, 3, 6, 7. */
@@ -93,19 +97,25 @@ planbook_answer planbook_withdraw(const uint8_t *plant, size_t plant_len, const 
 planbook_cost planbook_preview(const uint8_t *plant, size_t plant_len, const uint8_t *book, size_t book_len,
                                uint32_t mask, uint8_t *drops, size_t drops_len);
 
-/* What to do in a state when a goal is sought. Refusals 4, 5, 8. */
+/*
+ * What to do in a state when a goal is sought. Before a move is chosen every goal that the state serves is passed, from
+ * the sought one onward in turn. To ask again for the goal answered gives the same answer. In a book that make or
+ * withdraw wrote for a plant, make the move answered and seek the goal answered in the state that follows, from any
+ * kept state and any first goal on: that stays in kept states and meets every goal again and again, a goal that is
+ * passed there and then, and the goal answered within the wait answered. Refusals 4, 5, 8.
+ */
 planbook_advice planbook_consult(const uint8_t *book, size_t book_len, uint32_t state, uint32_t goal);
 
 /* Where a state's row stands in the book lent. Refusals 4, 5, 8 (the state alone). */
 planbook_part planbook_row(const uint8_t *book, size_t book_len, uint32_t state);
 
 /*
- * Every good move in a state when a goal is sought: the moves of the book's mask that have an arrow there and all of
- * whose arrows end in states that the book keeps and, where the state's wait in the book is above 0, with a smaller
- * wait for that goal. A lost state has none. In a book that make or withdraw wrote for this plant a kept state has at
- * least one, and the lowest is the move that consult gives; any pick, made anew at each step for the goal that consult
- * says to seek, stays in kept states and meets the goal sought within the wait shown, and every goal again and again.
- * In any other book a kept state may have none, and the move that consult gives need not be good. Refusals 1 to 5, 8.
+ * Every good move in a state when a goal is sought, for the goal that consult arrives at: the moves of the book's mask
+ * that have an arrow there and all of whose arrows end in states that the book keeps and, where the state's wait for
+ * that goal is above 0, with a smaller wait for it. A lost state has none. In a book that make or withdraw wrote for
+ * this plant a kept state has at least one, and the lowest is the move that consult gives; any pick, made anew at each
+ * step while the goals are sought as consult says, keeps what is said of consult's own move. In any other book a kept
+ * state may have none, and the move that consult gives need not be good. Refusals 1 to 5, 8.
  */
 planbook_mask planbook_moves(const uint8_t *plant, size_t plant_len, const uint8_t *book, size_t book_len,
                              uint32_t state, uint32_t goal);

@@ -119,7 +119,7 @@ def legend(facts: Facts) -> List[str]:
              "<div><b>★</b> the state is in the goal</div>"]
     if plain:
         lines += [stroke("listed", "the listed move (dark label): make this one; any of its arrows may be followed"),
-                  stroke("onward", "the listed move in a goal state: the goal is met, go on"),
+                  stroke("onward", "the listed move in a goal state: to go on from there when every goal is met"),
                   stroke("other", "another move in service (small figures: its number)"),
                   stroke("out", "a move out of service")]
     return ["<h2>Legend</h2>", '<div class="legend">'] + lines + ["</div>"]

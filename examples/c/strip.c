@@ -1,6 +1,7 @@
 /*
  * Strip plant P of the request: makes its book, withdraws move 2, asks in each state what to do for goal 0 and which
- * moves are good, then looks at what it would cost to withdraw move 0, withdraws it and prints the drop list.
+ * moves are good, and follows the book for some moves; then looks at what it would cost to withdraw move 0, withdraws
+ * it and prints the drop list.
  */
 #include <stdio.h>
 
@@ -8,13 +9,23 @@
 
 enum { BOOK = 48 }; /* the length of P's books: 16 + 4SN bytes for S 4 and N 2 */
 
+enum { ARROWS_AT = 12, ARROWS = 8 }; /* where P's arrows begin among its numbers, and how many there are */
+
+/* Strip plant P as 16-bit numbers. */
+static const uint16_t numbers[36] = {
+    4, 3, 2, 8, 16, 24, 72, 0, /* header: S, U, N, E, labels at, arrows at, length, 0 */
+    3, 1, 5, 0,                /* labels: bit 0 allowed, bit 1 + i in goal i */
+    0, 0, 1, 0, 1, 1, 0, 1, 2, /* arrows: from, move, to */
+    1, 0, 2, 1, 1, 3, 1, 2, 0, 2, 0, 0, 2, 2, 1,
+};
+
 static uint8_t plant[72], drops[8];
 
-/* Writes 16-bit numbers as bytes, the low byte first. */
-static void pack(uint8_t *bytes, const uint16_t *numbers, size_t count) {
-    for (size_t i = 0; i < count; i++) {
-        bytes[2 * i] = (uint8_t)(numbers[i] % 256);
-        bytes[2 * i + 1] = (uint8_t)(numbers[i] / 256);
+/* Writes P's numbers as bytes, the low byte first. */
+static void pack(void) {
+    for (size_t i = 0; i < 36; i++) {
+        plant[2 * i] = (uint8_t)(numbers[i] % 256);
+        plant[2 * i + 1] = (uint8_t)(numbers[i] / 256);
     }
 }
 
@@ -73,21 +84,39 @@ static void print_advice(const uint8_t *book) {
     }
 }
 
+/* Stands for the line: the state that follows, the end of the move's last arrow there. */
+static uint32_t reported(uint32_t state, uint32_t move) {
+    uint32_t end = state;
+    for (const uint16_t *arrow = numbers + ARROWS_AT; arrow < numbers + ARROWS_AT + 3 * ARROWS; arrow += 3) {
+        if (arrow[0] == state && arrow[1] == move) {
+            end = arrow[2];
+        }
+    }
+    return end;
+}
+
+/* Follows the book from state 0 and goal 0: makes the move answered and seeks the goal answered. */
+static void follow(const uint8_t *book, int moves) {
+    uint32_t state = 0, goal = 0;
+    for (int i = 0; i < moves; i++) {
+        planbook_advice advice = planbook_consult(book, BOOK, state, goal);
+        printf("in state %u seek goal %u, at most %u moves away: move %u\n", (unsigned)state, (unsigned)advice.seek,
+               (unsigned)advice.wait, (unsigned)advice.move);
+        goal = advice.seek;
+        state = reported(state, advice.move);
+    }
+}
+
 int main(void) {
-    static const uint16_t numbers[36] = {
-        4, 3, 2, 8, 16, 24, 72, 0, /* header: S, U, N, E, labels at, arrows at, length, 0 */
-        3, 1, 5, 0,                /* labels: bit 0 allowed, bit 1 + i in goal i */
-        0, 0, 1, 0, 1, 1, 0, 1, 2, /* arrows: from, move, to */
-        1, 0, 2, 1, 1, 3, 1, 2, 0, 2, 0, 0, 2, 2, 1,
-    };
     uint8_t made[BOOK], patched[BOOK], again[BOOK];
-    pack(plant, numbers, 36);
+    pack();
 
     if (refused("make", planbook_make(plant, sizeof plant, 7, made, BOOK).number) ||
         withdraw("move 2", made, 4, patched)) {
         return 1;
     }
     print_advice(patched);
+    follow(patched, 4);
     if (preview("move 0 too", patched, 1) || withdraw("move 0 too", patched, 1, again)) {
         return 1;
     }

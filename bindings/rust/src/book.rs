@@ -9,18 +9,22 @@ use crate::Refusal;
 /// Both places of an entry of a lost state.
 const LOST: u16 = u16::MAX;
 
-/// What a book says for a state and a goal.
+/// What a book says for a state and the goal sought.
+///
+/// Every goal that the state serves, that is, every goal at wait 0, is passed, from the one sought on in turn, after
+/// the last the first, until one that it does not serve: the goal arrived at. If the state serves all, the one sought
+/// stays.
 #[derive(Clone, Copy, Debug, PartialEq, Eq, Hash)]
 pub enum Advice {
     /// The state is lost.
     Lost,
     /// The state is kept.
     Move {
-        /// The move to make.
+        /// The move to make for the goal arrived at.
         action: u16,
-        /// At most so many moves until the goal asked for is met; 0 if the state is in it.
+        /// At most so many moves until the goal arrived at is met; 0 exactly if the state serves all goals.
         wait: u16,
-        /// The goal to ask for after the move: the same one, or at wait 0 the next one.
+        /// The goal arrived at: the one to seek, now and after the move.
         seek: u16,
     },
 }
@@ -127,7 +131,10 @@ pub fn preview_into(plant: &[u8], book: &[u8], mask: u32, drops: &mut [u8]) -> R
     Ok(Cost { drops: answer.drops as usize, kept: answer.kept as usize })
 }
 
-/// What the book says for a state and the goal sought.
+/// What the book says for a state and the goal sought, when the goals that the state serves are passed: see [`Advice`].
+///
+/// In a book that was made, or withdrawn from, for the plant, all goals are met again and again if the goal that it
+/// says to seek is the one sought in the next state.
 ///
 /// ```
 /// use planbook::Advice;
@@ -135,7 +142,7 @@ pub fn preview_into(plant: &[u8], book: &[u8], mask: u32, drops: &mut [u8]) -> R
 /// let plant = planbook::plants::strip().bytes();
 /// let mut book = [0; 48];
 /// planbook::make_into(&plant, 0b111, &mut book)?;
-/// assert_eq!(planbook::consult(&book, 2, 1)?, Advice::Move { action: 0, wait: 0, seek: 0 });
+/// assert_eq!(planbook::consult(&book, 2, 1)?, Advice::Move { action: 0, wait: 1, seek: 0 }); // goal 1 is passed
 /// assert_eq!(planbook::consult(&book, 3, 1)?, Advice::Lost);
 /// # Ok::<(), planbook::Refusal>(())
 /// ```
@@ -167,17 +174,17 @@ pub fn row(book: &[u8], state: u32) -> Result<&[u8], Refusal> {
 
 /// Every good move in a state when a goal is sought, as a mask (bit u is move u): the moves in service in the book that
 /// have an arrow there and all of whose arrows end in states that the book keeps and, above wait 0, with a smaller wait
-/// for that goal. A lost state has none.
+/// for the goal arrived at, which is the one that [`consult`] says to seek. A lost state has none.
 ///
 /// In a book that was made, or withdrawn from, for this plant a kept state has at least one, the lowest is the one that
-/// [`consult`] gives, and any pick, made anew at each step for the goal that consult says to seek, keeps what the book
+/// consult gives, and any pick, made anew at each step for the goal that consult says to seek, keeps what the book
 /// promises. A book that came about otherwise is read as it stands, and there a kept state may have none.
 ///
 /// ```
 /// let plant = planbook::plants::strip().bytes();
 /// let mut book = [0; 48];
 /// planbook::make_into(&plant, 0b111, &mut book)?;
-/// assert_eq!(planbook::good_moves(&plant, &book, 2, 1)?, 0b101); // in goal 1: every move that stays among kept states
+/// assert_eq!(planbook::good_moves(&plant, &book, 2, 1)?, 0b001); // in goal 1, so that goal 0 is arrived at
 /// assert_eq!(planbook::good_moves(&plant, &book, 1, 0)?, 0b100); // move 0 comes no nearer, and move 1 leads to state 3
 /// assert_eq!(planbook::good_moves(&plant, &book, 3, 0)?, 0); // lost
 /// assert_eq!(planbook::good_moves(&plant, &book, 4, 0), Err(planbook::Refusal::OutOfBook));
@@ -268,7 +275,7 @@ impl Book {
         Ok(Preview { dropped: listed(&list, cost.drops), kept: cost.kept as u16 })
     }
 
-    /// What the book says for a state and the goal sought.
+    /// What the book says for a state and the goal sought; see [`consult`].
     pub fn consult(&self, state: u16, goal: u16) -> Result<Advice, Refusal> {
         consult(&self.bytes, state.into(), goal.into())
     }

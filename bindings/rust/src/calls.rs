@@ -3,8 +3,8 @@
 
 use crate::sys::{Advice, Answer, Cost, Mask, Part};
 
-/// A planner: make, withdraw, consult and row as document 01 has them, and moves and preview as requests (i) and (iv)
-/// of document 02 do, on raw bytes.
+/// A planner: make, withdraw and row as document 01 has them, and moves, preview and consult as requests (i), (iv) and
+/// (v) of document 02 do, on raw bytes.
 pub trait Calls {
     /// A short name for tables and messages.
     fn name(&self) -> &'static str;
@@ -20,13 +20,14 @@ pub trait Calls {
     /// book.
     fn preview(&self, plant: &[u8], book: &[u8], mask: u32, drops: &mut [u8]) -> Cost;
 
-    /// What the book says for a state and the goal sought.
+    /// What the book says for a state and the goal sought: the goal arrived at when every goal that the state serves is
+    /// passed, from the one sought on, and its move and wait.
     fn consult(&self, book: &[u8], state: u32, goal: u32) -> Advice;
 
     /// Where the state's row stands in the book.
     fn row(&self, book: &[u8], state: u32) -> Part;
 
-    /// Every good move: all that meet the rule for the entry of a state and the goal sought, as a mask, read on the
+    /// Every good move: all that meet the rule for the entry of a state and the goal arrived at, as a mask, read on the
     /// book's own rows and mask.
     fn moves(&self, plant: &[u8], book: &[u8], state: u32, goal: u32) -> Mask;
 }

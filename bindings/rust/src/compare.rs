@@ -29,6 +29,10 @@ pub struct Comparison<'a> {
     previewed: u64,
     /// Sets of good moves that leave a choice.
     choices: u64,
+    /// Consults that pass one goal or more.
+    passes: u64,
+    /// Consults in which there is more than one goal, and all are served.
+    all_served: u64,
 }
 
 /// A buffer with watched bytes on each side, filled with a pattern.
@@ -52,7 +56,18 @@ impl Buffer {
 impl<'a> Comparison<'a> {
     /// Compares two planners.
     pub fn new(ours: &'a dyn Calls, second: &'a dyn Calls) -> Comparison<'a> {
-        Comparison { ours, second, calls: 0, refused: 0, mixed: 0, partial: 0, previewed: 0, choices: 0 }
+        Comparison {
+            ours,
+            second,
+            calls: 0,
+            refused: 0,
+            mixed: 0,
+            partial: 0,
+            previewed: 0,
+            choices: 0,
+            passes: 0,
+            all_served: 0,
+        }
     }
 
     /// How many calls were compared.
@@ -60,14 +75,20 @@ impl<'a> Comparison<'a> {
         self.calls
     }
 
+    /// How many consults passed one goal or more, and how many found all of several goals served.
+    pub fn arrivals(&self) -> [u64; 2] {
+        [self.passes, self.all_served]
+    }
+
     /// What was compared so far, in words.
     pub fn summary(&self) -> String {
         let [ours, second] = [self.ours, self.second].map(|planner| planner.name());
-        let Comparison { calls, refused, mixed, partial, previewed, choices, .. } = self;
+        let Comparison { calls, refused, mixed, partial, previewed, choices, passes, all_served, .. } = self;
         format!(
             "{ours} and {second} do not differ in {calls} calls, of which {refused} are refused, {mixed} write a book \
-             with kept and lost states, {partial} drop some states and keep others, {previewed} preview that, and \
-             {choices} find more than one good move"
+             with kept and lost states, {partial} drop some states and keep others, {previewed} preview that, \
+             {choices} find more than one good move, {passes} consults pass goals, and {all_served} find all of \
+             several goals served"
         )
     }
 
@@ -134,12 +155,21 @@ impl<'a> Comparison<'a> {
         (Cost { number, drops, kept: kept_count(&out) }, list)
     }
 
-    /// Compares a consult, and hands back the advice.
+    /// Compares a consult, and hands back the advice. It must be the same for the goal that it says to seek.
     pub fn consult(&mut self, book: &[u8], state: u32, goal: u32) -> Advice {
         let input = || format!("consult, state {state}, goal {goal}, book {}", hex(book));
         let advice = [self.ours, self.second].map(|planner| planner.consult(book, state, goal));
         self.same_answer(advice, &input);
-        self.count(advice[0].number);
+        let [Advice { number: refused, lost, wait, seek, .. }, _] = advice;
+        if refused == 0 {
+            let alone = || format!("{} alone, with goal {seek} second: {}", self.ours.name(), input());
+            self.same_answer([advice[0], self.ours.consult(book, state, seek)], &alone);
+        }
+        if (refused, lost) == (0, 0) {
+            self.passes += u64::from(seek != goal);
+            self.all_served += u64::from(wait == 0 && number(book, 4) > 1);
+        }
+        self.count(refused);
         advice[0]
     }
 
@@ -153,13 +183,19 @@ impl<'a> Comparison<'a> {
         parts[0]
     }
 
-    /// Compares the call for every good move, and hands back the answer.
+    /// Compares the call for every good move, and hands back the answer. It must be the same for the goal that consult
+    /// says to seek.
     pub fn moves(&mut self, plant: &[u8], book: &[u8], state: u32, goal: u32) -> Mask {
         let input = || format!("moves, state {state}, goal {goal}, {}", both(plant, book));
         let before = [plant.to_vec(), book.to_vec()];
         let sets = [self.ours, self.second].map(|planner| planner.moves(plant, book, state, goal));
         self.same_answer(sets, &input);
         self.only_read([plant, book], before, &input);
+        if sets[0].number == 0 {
+            let Advice { seek, .. } = self.ours.consult(book, state, goal);
+            let alone = || format!("{} alone, with goal {seek} second: {}", self.ours.name(), input());
+            self.same_answer([sets[0], self.ours.moves(plant, book, state, seek)], &alone);
+        }
         self.count(sets[0].number);
         self.choices += u64::from(sets[0].mask.count_ones() > 1);
         sets[0]

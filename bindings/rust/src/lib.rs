@@ -18,6 +18,7 @@
 //! let book = Book::make(&plant, 0b111)?;
 //! assert_eq!(book.kept_count(), 3);
 //! assert_eq!(book.consult(0, 1)?, Advice::Move { action: 0, wait: 2, seek: 1 });
+//! assert_eq!(book.consult(0, 0)?, Advice::Move { action: 0, wait: 2, seek: 1 }); // state 0 is in goal 0: it is passed
 //! assert_eq!(book.consult(3, 0)?, Advice::Lost);
 //! assert_eq!(book.good_moves(0, 1)?, 0b011); // move 1 is good there, too
 //!

@@ -42,11 +42,11 @@ pub struct Advice {
     pub number: u32,
     /// 1 if the state is lost; all that follows is then 0.
     pub lost: u32,
-    /// The move to make (`move` in C).
+    /// The move to make for the goal arrived at (`move` in C).
     pub action: u32,
-    /// At most so many moves until the goal is met.
+    /// At most so many moves until the goal arrived at is met; 0 exactly if the state serves all goals.
     pub wait: u32,
-    /// The goal to seek after the move.
+    /// The goal arrived at: the one to seek, now and after the move.
     pub seek: u32,
 }
 
@@ -68,7 +68,7 @@ pub struct Part {
 pub struct Mask {
     /// 0, or the number of the refusal.
     pub number: u32,
-    /// Every good move: bit u is move u. 0 if the state is lost.
+    /// Every good move for the goal arrived at: bit u is move u. 0 if the state is lost.
     pub mask: u32,
 }
 
@@ -124,7 +124,7 @@ extern "C" {
         drops_len: usize,
     ) -> Cost;
 
-    /// The move, the wait and the next goal for a state and the goal sought.
+    /// The goal arrived at from the goal sought in a state, and its move and wait.
     ///
     /// # Safety
     /// `book` is good to read for `book_len` bytes.
@@ -136,7 +136,7 @@ extern "C" {
     /// `book` is good to read for `book_len` bytes.
     pub fn planbook_row(book: *const u8, book_len: usize, state: u32) -> Part;
 
-    /// Every good move for a state and the goal sought.
+    /// Every good move in a state for the goal arrived at from the goal sought.
     ///
     /// # Safety
     /// `plant` is good to read for `plant_len` bytes, and `book` for `book_len`.

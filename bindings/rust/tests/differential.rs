@@ -24,6 +24,7 @@ fn documents_01_and_02() {
     document::previews_of_the_longest(&Linked);
     document::good_moves(&Linked);
     document::good_moves_of_the_longest(&Linked);
+    document::arrivals(&Linked);
     document::refusals(&Linked);
 }
 
@@ -43,8 +44,8 @@ fn good_moves_are_those_of_the_rule() {
 }
 
 #[test]
-fn any_pick_of_good_moves_serves() {
-    promises::picks_serve(&Linked);
+fn following_meets_the_goals() {
+    promises::following_meets_the_goals(&Linked);
 }
 
 #[test]
@@ -58,12 +59,16 @@ fn exhaustive_rounds() {
 
 #[test]
 fn random_rounds() {
-    let calls = std::env::var("PLANBOOK_CALLS").map_or(200_000, |word| word.parse().expect("a number of calls"));
+    let calls = std::env::var("PLANBOOK_CALLS").map_or(300_000, |word| word.parse().expect("a number of calls"));
+    // In all rounds together, how many consults pass goals, and how many find all of several goals served.
+    let mut arrivals = [0; 2];
     for (name, round) in rounds::RANDOM_ROUNDS {
         let mut comparison = Comparison::new(&Linked, &Fast);
         let rounds = rounds::run(&mut comparison, round, SEED, calls);
         println!("{name}, {rounds} rounds from seed {SEED}: {}", comparison.summary());
+        arrivals = std::array::from_fn(|at| arrivals[at] + comparison.arrivals()[at]);
     }
+    assert!(arrivals.iter().all(|&many| many > calls / 20), "{arrivals:?} arrivals");
 }
 
 /// All families at their largest: made, and each move withdrawn in turn.

@@ -18,6 +18,7 @@ fn marked_examples() {
         document::further_examples(planner);
         document::previews(planner);
         document::good_moves(planner);
+        document::arrivals(planner);
     }
 }
 
@@ -59,7 +60,7 @@ fn promises() {
     promises::drop_lists_are_read_from_the_books(&Fast);
     promises::previews_come_true(&Fast);
     promises::sets_are_those_of_the_rule(&Fast);
-    promises::picks_serve(&Fast);
+    promises::following_meets_the_goals(&Fast);
 }
 
 /// Tiny plants, with every mask, every withdrawal from what is made, and the preview of move 0: brute force, sweeps and
@@ -116,7 +117,8 @@ fn brute_force_agrees_on_invented_books() {
         }
     }
     println!("{tried} tiny plants: {}", comparison.summary());
-    assert!(tried > 3_000);
+    let [passes, all_served] = comparison.arrivals();
+    assert!(tried > 3_000 && passes > 5_000 && all_served > 5_000);
 }
 
 /// All families at all sizes: sweeps and worklist agree on makes, and on withdrawals of one move after another.
@@ -139,9 +141,11 @@ fn sweeps_and_worklist_agree_in_every_round() {
         round(&mut comparison);
     }
     for (name, round) in rounds::RANDOM_ROUNDS {
-        let (seed, calls) = (7_000_000, 20_000);
+        let (seed, calls) = (7_000_000, 30_000);
         let rounds = rounds::run(&mut comparison, round, seed, calls);
         println!("{name}: {rounds} rounds from seed {seed}");
     }
     println!("{}", comparison.summary());
+    let [passes, all_served] = comparison.arrivals();
+    assert!(passes > 5_000 && all_served > 2_000);
 }

@@ -13,7 +13,8 @@ fn a_book_owns_its_bytes_and_the_plant() {
     assert_eq!((book.states(), book.moves(), book.goals()), (4, 3, 2));
     assert_eq!((book.kept_count(), book.mask(), book.bytes().len()), (3, 7, 48));
     assert_eq!(book.row(2), Ok(&book.bytes()[32..40]));
-    assert_eq!(book.consult(2, 1), Ok(Advice::Move { action: 0, wait: 0, seek: 0 }));
+    assert_eq!(book.consult(0, 1), Ok(Advice::Move { action: 0, wait: 2, seek: 1 }));
+    assert_eq!(book.consult(2, 1), Ok(Advice::Move { action: 0, wait: 1, seek: 0 })); // goal 1 is passed
     assert_eq!(book.consult(3, 1), Ok(Advice::Lost));
     let rows: Vec<Option<Vec<Entry>>> = book.rows().map(|row| row.map(Iterator::collect)).collect();
     let entry = |wait, action| Entry { wait, action };
@@ -28,12 +29,24 @@ fn a_book_gives_every_good_move() {
     let book = Book::make(&plant, 7).expect("P is a plant");
     assert_eq!(
         (book.good_moves(2, 1), book.good_moves(0, 1), book.good_moves(1, 0), book.good_moves(3, 0)),
-        (Ok(5), Ok(3), Ok(4), Ok(0))
+        (Ok(1), Ok(3), Ok(4), Ok(0))
     );
     let (book, _) = book.withdraw(4).expect("move 2 exists");
     assert_eq!((book.good_moves(2, 1), book.good_moves(1, 0)), (Ok(1), Ok(1)));
     assert_eq!((book.good_moves(4, 0), book.good_moves(3, 2)), (Err(Refusal::OutOfBook), Err(Refusal::OutOfBook)));
     assert_eq!(good_moves(&plant, book.bytes(), 2, 1), Ok(1));
+}
+
+/// State 0 is in both goals and goes to state 1, which is in goal 0 alone and goes back.
+#[test]
+fn goals_that_a_state_serves_are_passed() {
+    let model = plants::Model { moves: 2, goals: 2, labels: vec![7, 3], arrows: vec![[0, 1, 1], [1, 0, 0]] };
+    let book = Book::make(&model.bytes(), 3).expect("a plant");
+    let advice = |action, wait, seek| Ok(Advice::Move { action, wait, seek });
+    assert_eq!((book.consult(0, 0), book.consult(0, 1)), (advice(1, 0, 0), advice(1, 0, 1))); // all served: it stays
+    assert_eq!((book.consult(1, 0), book.consult(1, 1)), (advice(0, 1, 1), advice(0, 1, 1)));
+    assert_eq!((book.good_moves(0, 0), book.good_moves(0, 1)), (Ok(2), Ok(2)));
+    assert_eq!((book.good_moves(1, 0), book.good_moves(1, 1)), (Ok(1), Ok(1)));
 }
 
 #[test]

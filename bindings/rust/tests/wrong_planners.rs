@@ -63,14 +63,22 @@ impl Solve for ShortWaits {
 /// The good moves of a kept state for a goal, by some rule.
 type Rule = fn(&Plant, &BookView, usize, usize) -> u32;
 
+/// The goal whose good moves are given, from the plant, the book, a kept state and the goal sought.
+type Aim = fn(&Plant, &BookView, usize, usize) -> usize;
+
+/// What consult answers, from the book, a kept state and the goal sought.
+type Ask = fn(&BookView, usize, usize) -> Advice;
+
 /// What a preview answers and writes: from the plant, the book, the mask and the drop buffer.
 type Look = fn(&[u8], &[u8], u32, &mut [u8]) -> Cost;
 
-/// A planner with a rule of its own for the good moves, a drop list of which it makes what it likes, and a preview of
-/// its own; all else is right.
+/// A planner with a goal and a rule of its own for the good moves, a consult of its own, a drop list of which it makes
+/// what it likes, and a preview of its own; all else is right.
 struct Own {
     name: &'static str,
+    aim: Aim,
     rule: Rule,
+    ask: Ask,
     list: fn(&mut [[u8; 2]]),
     look: Look,
 }
@@ -98,7 +106,10 @@ impl Calls for Own {
     }
 
     fn consult(&self, book: &[u8], state: u32, goal: u32) -> Advice {
-        Fast.consult(book, state, goal)
+        match (Fast.consult(book, state, goal), BookView::read(book, None)) {
+            (Advice { number: 0, lost: 0, .. }, Ok(book)) => (self.ask)(&book, state as usize, goal as usize),
+            (right, _) => right,
+        }
     }
 
     fn row(&self, book: &[u8], state: u32) -> Part {
@@ -109,7 +120,8 @@ impl Calls for Own {
         let right = Fast.moves(plant, book, state, goal);
         match (Plant::read(plant), BookView::read(book, None)) {
             (Ok(plant), Ok(book)) if right.number == 0 && book.is_kept(state as usize) => {
-                Mask { number: 0, mask: (self.rule)(&plant, &book, state as usize, goal as usize) }
+                let goal = (self.aim)(&plant, &book, state as usize, goal as usize);
+                Mask { number: 0, mask: (self.rule)(&plant, &book, state as usize, goal) }
             }
             _ => right,
         }
@@ -131,9 +143,61 @@ fn rule<'a>(book: &'a BookView, state: usize, goal: usize) -> impl Fn(usize) -> 
     move |end| book.is_kept(end) && (wait == 0 || book.entry(end, goal).0 < wait)
 }
 
-/// The rule of document 02, and drop lists and previews as they are.
+/// Passes goals one by one, `most` of them at the most, as long as the test holds.
+fn pass(book: &BookView, sought: usize, most: usize, test: impl Fn(usize) -> bool) -> usize {
+    let passed = (0..most).take_while(|turn| test((sought + turn) % book.goals)).count();
+    (sought + passed) % book.goals
+}
+
+/// Whether a state serves a goal.
+fn serves<'a>(book: &'a BookView, state: usize) -> impl Fn(usize) -> bool + 'a {
+    move |goal| book.entry(state, goal).0 == 0
+}
+
+/// The goal arrived at: to pass them all leads back to the one sought.
+fn arrive(book: &BookView, state: usize, sought: usize) -> usize {
+    pass(book, sought, book.goals, serves(book, state))
+}
+
+/// One goal is passed and no more.
+fn one_pass(book: &BookView, state: usize, sought: usize) -> usize {
+    pass(book, sought, 1, serves(book, state))
+}
+
+/// No goal is passed round the end: the last one stays.
+fn up_to_the_last(book: &BookView, state: usize, sought: usize) -> usize {
+    pass(book, sought, book.goals - 1 - sought, serves(book, state))
+}
+
+/// A goal at wait 1 is passed, too.
+fn over_wait_1(book: &BookView, state: usize, sought: usize) -> usize {
+    pass(book, sought, book.goals, |goal| book.entry(state, goal).0 <= 1)
+}
+
+/// Another goal where all are served.
+fn if_all_served(book: &BookView, state: usize, sought: usize, other: usize) -> usize {
+    match (0..book.goals).all(serves(book, state)) {
+        true => other % book.goals,
+        false => arrive(book, state, sought),
+    }
+}
+
+/// Consult's answer with the move and the wait of a goal.
+fn shown(book: &BookView, state: usize, goal: usize, seek: usize) -> Advice {
+    let (wait, action) = book.entry(state, goal);
+    Advice { number: 0, lost: 0, action: action.into(), wait: wait.into(), seek: seek as u32 }
+}
+
+/// Consult's answer for a goal.
+fn show(book: &BookView, state: usize, goal: usize) -> Advice {
+    shown(book, state, goal, goal)
+}
+
+/// The rules of document 02, and drop lists and previews as they are.
 const RIGHT: Own = Own {
     name: "right",
+    aim: |_, book, state, sought| arrive(book, state, sought),
+    ask: |book, state, sought| show(book, state, arrive(book, state, sought)),
     rule: |plant, book, state, goal| all_into(plant, book.mask, state, rule(book, state, goal)),
     list: |_| {},
     look: |plant, book, mask, drops| Fast.preview(plant, book, mask, drops),
@@ -141,6 +205,14 @@ const RIGHT: Own = Own {
 
 const fn wrong_rule(name: &'static str, rule: Rule) -> Own {
     Own { name, rule, ..RIGHT }
+}
+
+const fn wrong_aim(name: &'static str, aim: Aim) -> Own {
+    Own { name, aim, ..RIGHT }
+}
+
+const fn wrong_ask(name: &'static str, ask: Ask) -> Own {
+    Own { name, ask, ..RIGHT }
 }
 
 const fn wrong_list(name: &'static str, list: fn(&mut [[u8; 2]])) -> Own {
@@ -179,6 +251,68 @@ const WRONG: [Own; 9] = [
     wrong_list("dropped states high byte first", |list| list.iter_mut().for_each(|number| number.reverse())),
     wrong_list("the last dropped state first", |list| list.rotate_right(usize::from(!list.is_empty()))),
 ];
+
+/// Planners with one fault each in the goal whose good moves they give. Beside themselves, the first `UNSTEADY_AIMS`
+/// show by consult: they give other moves for the goal that it says to seek.
+const WRONG_AIMS: [Own; 7] = [
+    wrong_aim("the good moves of the goal sought", |_, _, _, sought| sought),
+    wrong_aim("the good moves after one pass", |_, book, state, sought| one_pass(book, state, sought)),
+    wrong_aim("the good moves with none passed round the end", |_, book, state, sought| {
+        up_to_the_last(book, state, sought)
+    }),
+    wrong_aim("the good moves with goals passed by the label", |plant, book, state, sought| {
+        pass(book, sought, book.goals, |goal| plant.in_goal(state, goal))
+    }),
+    wrong_aim("the good moves with wait 1 passed", |_, book, state, sought| over_wait_1(book, state, sought)),
+    wrong_aim("the good moves from the first goal on", |_, book, state, _| arrive(book, state, 0)),
+    wrong_aim("the good moves of one goal too far", |_, book, state, sought| {
+        (arrive(book, state, sought) + 1) % book.goals
+    }),
+];
+const UNSTEADY_AIMS: usize = 5;
+
+/// Planners with one fault each in consult alone. Beside themselves, the first `UNSTEADY_ASKS` show by the goal that
+/// they say to seek: for it they answer otherwise, or their good moves are others.
+const WRONG_ASKS: [Own; 14] = [
+    wrong_ask("none passed, and the next goal to seek at wait 0", |book, state, sought| {
+        shown(book, state, sought, one_pass(book, state, sought))
+    }),
+    wrong_ask("one pass", |book, state, sought| show(book, state, one_pass(book, state, sought))),
+    wrong_ask("one pass too few", |book, state, sought| {
+        show(book, state, pass(book, sought, book.goals - 1, serves(book, state)))
+    }),
+    wrong_ask("from the first goal on", |book, state, _| show(book, state, arrive(book, state, 0))),
+    wrong_ask("wait 1 passed", |book, state, sought| show(book, state, over_wait_1(book, state, sought))),
+    wrong_ask("the next goal when all are served", |book, state, sought| {
+        show(book, state, if_all_served(book, state, sought, sought + 1))
+    }),
+    wrong_ask("move and wait of the goal sought", |book, state, sought| {
+        shown(book, state, sought, arrive(book, state, sought))
+    }),
+    wrong_ask("the move of the goal sought", |book, state, sought| {
+        let Advice { action, .. } = show(book, state, sought);
+        Advice { action, ..show(book, state, arrive(book, state, sought)) }
+    }),
+    wrong_ask("the wait of the goal sought", |book, state, sought| {
+        let Advice { wait, .. } = show(book, state, sought);
+        Advice { wait, ..show(book, state, arrive(book, state, sought)) }
+    }),
+    wrong_ask("one goal too far to seek", |book, state, sought| {
+        let goal = arrive(book, state, sought);
+        shown(book, state, goal, (goal + 1) % book.goals)
+    }),
+    wrong_ask("none passed", show),
+    wrong_ask("none passed round the end", |book, state, sought| {
+        show(book, state, up_to_the_last(book, state, sought))
+    }),
+    wrong_ask("the first goal when all are served", |book, state, sought| {
+        show(book, state, if_all_served(book, state, sought, 0))
+    }),
+    wrong_ask("the goal sought still to seek", |book, state, sought| {
+        shown(book, state, arrive(book, state, sought), sought)
+    }),
+];
+const UNSTEADY_ASKS: usize = 10;
 
 /// Planners with one fault each in the preview alone.
 const WRONG_LOOKS: [Own; 7] = [
@@ -221,26 +355,43 @@ fn compare(planner: &dyn Calls, second: &dyn Calls) {
     }
 }
 
+/// Finds each of these planners to differ from the one beside it. The message has its name and the call's input, with
+/// the part that is named.
+fn check_found<'a>(pairs: impl Iterator<Item = [&'a dyn Calls; 2]>, part: &str) {
+    // The differences are wanted: nothing is printed of them.
+    set_hook(Box::new(|_| {}));
+    let compared =
+        |[wrong, second]: [&'a dyn Calls; 2]| (wrong.name(), catch_unwind(AssertUnwindSafe(|| compare(wrong, second))));
+    let found: Vec<_> = pairs.map(compared).collect();
+    let _ = take_hook();
+    for (name, compared) in found {
+        let payload = compared.err().unwrap_or_else(|| panic!("{name}: no difference"));
+        let message = payload.downcast::<String>().expect("a message");
+        println!("{name}: {}", &message[..message.len().min(160)]);
+        assert!(message.contains(name) && message.contains(part), "{message}");
+    }
+}
+
+/// Beside a right planner.
+fn beside_fast(wrong: &dyn Calls) -> [&dyn Calls; 2] {
+    [wrong, &Fast]
+}
+
+/// Beside itself, so that the fault must show by what the planner says elsewhere.
+fn beside_itself(wrong: &Own) -> [&dyn Calls; 2] {
+    [wrong, wrong]
+}
+
 #[test]
 fn wrong_planners_are_found() {
     // No difference: what is found of the others is their faults alone.
     compare(&RIGHT, &Fast);
-    // The differences are wanted: nothing is printed of them.
-    set_hook(Box::new(|_| {}));
-    let mut found = Vec::new();
     let solvers = [&Remake as &dyn Calls, &AllLost, &MayForMust, &ShortWaits];
-    let own = WRONG.iter().chain(&WRONG_LOOKS).map(|planner| planner as &dyn Calls);
-    let beside_fast = solvers.into_iter().chain(own).map(|wrong| (wrong, &Fast as &dyn Calls));
-    // Beside itself, a wrong preview shows by its own withdrawal alone.
-    let beside_itself = WRONG_LOOKS.iter().map(|wrong| (wrong as &dyn Calls, wrong as &dyn Calls));
-    for (wrong, second) in beside_fast.chain(beside_itself) {
-        let compared = catch_unwind(AssertUnwindSafe(|| compare(wrong, second)));
-        let message = compared.map_err(|payload| *payload.downcast::<String>().expect("a message"));
-        found.push((wrong.name(), message.expect_err("a difference")));
-    }
-    let _ = take_hook();
-    for (name, message) in found {
-        println!("{name}: {}", &message[..message.len().min(160)]);
-        assert!(message.contains(name) && message.contains(", plant "), "{message}");
-    }
+    let own = WRONG.iter().chain(&WRONG_LOOKS).chain(&WRONG_AIMS).map(|planner| planner as &dyn Calls);
+    check_found(solvers.into_iter().chain(own).map(beside_fast), ", plant ");
+    // A wrong preview shows by the planner's own withdrawal, and a wrong goal by its own consult.
+    check_found(WRONG_LOOKS.iter().chain(&WRONG_AIMS[..UNSTEADY_AIMS]).map(beside_itself), ", plant ");
+    // Consult takes no plant.
+    check_found(WRONG_ASKS.iter().map(|planner| beside_fast(planner)), "in consult, state ");
+    check_found(WRONG_ASKS[..UNSTEADY_ASKS].iter().map(beside_itself), ", book ");
 }

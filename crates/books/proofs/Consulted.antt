@@ -1,6 +1,6 @@
 -- Consulting a book and handing back a row, case by case: refused, lost, kept. Assumes nothing.
 use mathlib.Core.Path.{_≡_, refl, sym, ap, ap₂, _∙_}
-use mathlib.Core.Bool.{Bool, true, false, not}
+use mathlib.Core.Bool.{Bool, true, false, _&&_, not}
 use mathlib.Core.List.{List, []}
 use Prim.Native.Nat.{ℕ, suc, _+_, _-_, _*_, _≤_, _<_}
 use native.Mathlib.Omega.{arith}
@@ -8,9 +8,9 @@ use lib.Dec.{eqb}
 use lib.ListN.{length, take, drop, length-drop}
 use lib.Seq.{length-take-le}
 use borrow.Author.Tests.{eq-eqb, ne-eqb, leb-false}
-use Rattle.statements.specs.Plants.{when}
-use Rattle.statements.specs.Books.{bookLong, bookStates, bookGoals, waitAt, moveAt, isLost, nextGoal}
-use Rattle.statements.specs.Calls.{consultFault, rowPart}
+use Rattle.statements.specs.Plants.{when, plantOf, plantFault}
+use Rattle.statements.specs.Books.{bookLong, bookStates, bookGoals, waitAt, moveAt, isLost, bookHeadOk, arrive}
+use Rattle.statements.specs.Calls.{alike, consultFault, movesFault, rowPart}
 use Rattle.books.specs.Says.{accepted, keeps, ConsultSays, rowStart}
 use Rattle.sets.proofs.Tests.{or-neither}
 use Rattle.decoding.proofs.Faults.{BookOk, book-ok, first-iff}
@@ -40,6 +40,13 @@ module _ (b : List ℕ) (x i : ℕ) where
         goal = leb-false _ _ (t .1);
       }
 
+  -- and so may the call for all good moves
+  pub moves-fine : (s : List ℕ) → movesFault s b x i ≡ 0 → Fine
+  unfolding movesFault
+  moves-fine s e =
+      let book = first-iff (plantFault s) _ .0 e .1 in
+      fine (first-iff (when (not (bookHeadOk b && alike (plantOf s) b)) 4) _ .0 book .1)
+
   -- consult's answer: refused
   pub says-refused : (n : ℕ) → n ≡ consultFault b x i → (n ≡ 0 → ⊥)
       → ConsultSays b x i (record { number = n; lost = false; action = 0; wait = 0; seek = 0 })
@@ -56,11 +63,17 @@ module _ (b : List ℕ) (x i : ℕ) where
 
   -- kept
   pub says-kept : consultFault b x i ≡ 0 → isLost b x ≡ false
-      → (u w g : ℕ) → u ≡ moveAt b x i → w ≡ waitAt b x i → g ≡ nextGoal b x i
+      → (u w g : ℕ) → u ≡ moveAt b x g → w ≡ waitAt b x g → g ≡ arrive b x i
       → ConsultSays b x i (record { number = 0; lost = false; action = u; wait = w; seek = g })
   unfolding accepted keeps
   says-kept e l u w g ue we ge =
-      record { number = sym e; lost = rw (e, l); action = rw (e, l) ue; wait = rw (e, l) we; seek = rw (e, l) ge }
+      record {
+        number = sym e;
+        lost = rw (e, l);
+        action = rw (e, l) (rw ge at ue);
+        wait = rw (e, l) (rw ge at we);
+        seek = rw (e, l) ge;
+      }
 
 -- a row: refused
 module _ (b : List ℕ) (x : ℕ) (refused : consultFault b x 0 ≡ 0 → ⊥) where

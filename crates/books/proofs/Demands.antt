@@ -1,4 +1,5 @@
 -- All that the calls are held to. Assumes nothing.
+use Rattle.winning.proofs.Goals.{arriving}
 use Rattle.demands.proofs.Demand2.{demand-2}
 use Rattle.demands.proofs.Demand3.{demand-3}
 use Rattle.books.specs.Demands.{Demands}
@@ -6,6 +7,7 @@ use Rattle.books.proofs.Listed.{lists-dropped}
 use Rattle.books.proofs.Previewed.{previewed}
 use Rattle.books.proofs.Determined.{determined}
 use Rattle.books.proofs.Traces.{demand-3-traced}
+use Rattle.books.proofs.Walked.{walks}
 
 pub demands : Demands
 demands =
@@ -15,5 +17,7 @@ demands =
       traced = demand-3-traced;
       listed = λ s b gone o o′ d d′ r. lists-dropped;
       previewed = previewed;
+      arriving = arriving;
+      walks = walks;
       determined = determined;
     }

@@ -1,4 +1,5 @@
 -- Laws of what the public calls promise.
+pub mod Arriving
 pub mod Consulted
 pub mod Started
 pub mod Made
@@ -6,4 +7,5 @@ pub mod Listed
 pub mod Previewed
 pub mod Determined
 pub mod Traces
+pub mod Walked
 pub mod Demands

@@ -70,7 +70,7 @@ module _ (s b : List ℕ) (gone room : ℕ) (d d′ : List ℕ) (n : ℕ)
 -- what an accepted withdrawal returns, and leaves in its buffers
 module _ {s b : List ℕ} {gone : ℕ} {o o′ d d′ : List ℕ} {r : Answer} (says : WithdrawSays s b gone o o′ d d′ r)
     (is-accepted : r .number ≡ 0) where
-  no-fault : withdrawFault s b gone (length o) (length d) ≡ 0
+  pub no-fault : withdrawFault s b gone (length o) (length d) ≡ 0
   no-fault = sym (says .number) ∙ is-accepted
 
   -- the book

@@ -52,7 +52,7 @@ trace-answers s b (c ∷ cs) h =
 
 -- the first standing book is that of the make
 module _ (s : List ℕ) (t : Begun s) where
-  fault-zero : makeFault s (t .mask) (length (t .o)) ≡ 0
+  pub fault-zero : makeFault s (t .mask) (length (t .o)) ≡ 0
   fault-zero = sym (t .says .number) ∙ t .is-accepted
 
   first-book : take (t .r .length) (t .o′) ≡ madeBook (plantOf s) (t .mask)

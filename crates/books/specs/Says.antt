@@ -12,7 +12,7 @@ use Rattle.books.specs.declared.Cost.{Cost}
 use Rattle.books.specs.declared.Mask.{Mask}
 use Rattle.statements.specs.Sets.{pick, over, isIn}
 use Rattle.statements.specs.Plants.{words, plantOf}
-use Rattle.statements.specs.Books.{bytesOf, bookGoals, bookCount, waitAt, moveAt, isLost, nextGoal, goodMoves}
+use Rattle.statements.specs.Books.{bytesOf, bookGoals, bookCount, waitAt, moveAt, isLost, arrive, goodMoves}
 use Rattle.statements.specs.Books.{madeBook, withdrawnBook, droppedStates}
 use Rattle.statements.specs.Calls.{consultFault, movesFault, makeFault, withdrawFault, previewFault}
 use Rattle.statements.specs.Demands.{Rising}
@@ -26,19 +26,20 @@ unfoldable pub keeps : List ℕ → ℕ → ℕ → Bool
 keeps b x i = accepted b x i && not (isLost b x)
 
 -- consulting a book b for a state x and the goal i sought: the number is 4, 5, 8 or 0; an accepted call says lost, or
--- gives the move, the wait and the goal to seek next; every field that is not given is 0
+-- gives the move and the wait of the goal arrived at, and that goal; every field that is not given is 0
 pub record ConsultSays (b : List ℕ) (x i : ℕ) (r : Advice) : Type 0 where
   pub number : r .number ≡ consultFault b x i
   pub lost : r .lost ≡ (accepted b x i && isLost b x)
-  pub action : r .action ≡ pick (keeps b x i) (moveAt b x i) 0
-  pub wait : r .wait ≡ pick (keeps b x i) (waitAt b x i) 0
-  pub seek : r .seek ≡ pick (keeps b x i) (nextGoal b x i) 0
+  pub action : r .action ≡ pick (keeps b x i) (moveAt b x (arrive b x i)) 0
+  pub wait : r .wait ≡ pick (keeps b x i) (waitAt b x (arrive b x i)) 0
+  pub seek : r .seek ≡ pick (keeps b x i) (arrive b x i) 0
 
 -- asking for all good moves with a plant's bytes s, a book b, a state x and the goal i sought: the number is 1 to 5, 8
--- or 0; an accepted call gives the moves that meet the entry's rule, as a mask; a refused one 0
+-- or 0; an accepted call gives the moves that meet the rule of the entry of the goal arrived at, as a mask; a refused
+-- one 0
 pub record MovesSays (s b : List ℕ) (x i : ℕ) (r : Mask) : Type 0 where
   pub number : r .number ≡ movesFault s b x i
-  pub mask : r .mask ≡ pick (eqb (r .number) 0) (goodMoves (plantOf s) b x i) 0
+  pub mask : r .mask ≡ pick (eqb (r .number) 0) (goodMoves (plantOf s) b x (arrive b x i)) 0
 
 -- where in a book b the row of state x starts; 0 when refused
 unfoldable pub rowStart : List ℕ → ℕ → ℕ

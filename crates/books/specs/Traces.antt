@@ -82,7 +82,7 @@ serviceAfter s t = inService (plantOf s) (t .mask) (callsOf (t .steps))
 pub record Demand-3-traced : Type 0 where
   -- the standing book is that of a making afresh with the moves in service
   pub as-afresh : (s : List ℕ) (t : Begun s) → bookAfter s t ≡ madeBook (plantOf s) (serviceAfter s t)
-  -- so that demand 2 and request (i) hold of it
+  -- so that demand 2 and requests (i) and (v) hold of it
   pub right : (s : List ℕ) (t : Begun s) →
       Right (plantOf s) (serviceAfter s t) (Allowed (plantOf s)) (bookAfter s t)
   -- each answer's number is told from the masks and the buffers' lengths alone

@@ -14,7 +14,8 @@ ghost use Rattle.books.specs.Says.{PreviewSays};
 ghost use Rattle.books.specs.Demands.{Demands};
 
 // What consult answers. A refused call has its number, and 0 in every other field; a lost state has `lost`, and 0 in
-// the others; otherwise the move (`action`), the wait and the goal to seek next.
+// the others; otherwise the move (`action`) and the wait of the goal arrived at, and that goal, to be sought from here
+// on (`seek`).
 pub struct Advice {
     pub number: u8,
     pub lost: bool,
@@ -23,9 +24,11 @@ pub struct Advice {
     pub seek: u16,
 }
 
-// Takes a book, a state and the goal sought. Answers lost, or the move, the wait and the goal to seek next.
+// Takes a book, a state and the goal sought. Answers lost, or the goal arrived at, where every goal that the state
+// serves is passed from the sought one onward in turn, with its move and its wait.
 pub fn consult_book(book: &[u8], state: u32, goal: u32) -> Advice
     ensures { λ r. ⌜ ConsultSays (now (book .entry)) state goal r ⌝ }
+    ensures demands { λ _. ⌜ Demands ⌝ }
 {
     let fault = refusals::consult(book, state, goal);
     if fault != 0 {
@@ -56,8 +59,8 @@ pub struct Mask {
     pub mask: u32,
 }
 
-// Takes a plant, a book, a state and the goal sought. Answers all moves that meet the rule of that entry, as a mask; 0
-// for a lost state.
+// Takes a plant, a book, a state and the goal sought. Answers all moves that meet the rule of the entry of the goal
+// arrived at, as a mask; 0 for a lost state.
 pub fn good_moves(plant: &[u8], book: &[u8], state: u32, goal: u32) -> Mask
     ensures { λ r. ⌜ MovesSays (now (plant .entry)) (now (book .entry)) state goal r ⌝ }
     ensures demands { λ _. ⌜ Demands ⌝ }
@@ -69,9 +72,10 @@ pub fn good_moves(plant: &[u8], book: &[u8], state: u32, goal: u32) -> Mask
             mask: 0,
         };
     }
+    let at = consult::arrive(book, state, goal);
     Mask {
         number: 0,
-        mask: moves::good(plant, book, state, goal),
+        mask: moves::good(plant, book, state, at),
     }
 }
 

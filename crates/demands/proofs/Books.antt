@@ -85,12 +85,13 @@ module _ {p : Plant} {mask : ℕ} {within : ℕ → Bool} (given : Given p mask 
   pub book-iff : (b : List ℕ) → IsBook p mask (Within within) b ↔ (b ≡ bookWithin p mask within)
   book-iff b = (no-other b, λ e. rw e is-book)
 
-  -- what demand 2 and request (i) say of the book
+  -- what demand 2 and requests (i) and (v) say of the book
   pub right : Right p mask (Within within) (bookWithin p mask within)
   right =
       record {
         is-book = is-book;
         no-other = no-other;
+        accepted = accepted;
         short = λ x i hx hi w.
             let h = winners given x .1 w in
             rw (book-wait given x i h hi) (given-fits given .waits x i h hi);

@@ -1,5 +1,6 @@
 -- Picking from a book: the set of an entry has exactly the moves that meet its rule, the listed move is its lowest, and
--- any pick from it, made anew at each step, serves, since the wait for the goal sought falls. Assumes nothing.
+-- any pick from that of the goal arrived at, made anew at each step, serves, since the wait for that goal falls.
+-- Assumes nothing.
 use mathlib.Core.Path.{_≡_, sym, _∙_}
 use mathlib.Core.Logic.{_↔_, inl, inr}
 use mathlib.Core.Bool.{Bool, true, false}
@@ -7,14 +8,14 @@ use mathlib.Core.List.{List}
 use Prim.Native.Nat.{ℕ, suc, _<_}
 use Rattle.statements.specs.Sets.{bit, lowest}
 use Rattle.statements.specs.Plants.{Plant, goesInto, movesInto}
-use Rattle.statements.specs.Books.{moveAt, isLost, nearerIn, goodMoves, bookWithin}
+use Rattle.statements.specs.Books.{moveAt, isLost, arrive, nearerIn, goodMoves, bookWithin}
 use Rattle.statements.specs.Strategies.{Wins, Picks, Serves}
 use Rattle.statements.specs.Demands.{Meets, Nearer}
 use Rattle.sets.proofs.Tests.{decided, not-both}
 use Rattle.sets.proofs.Bits.{bit-none}
 use Rattle.kept.proofs.Moves.{moves-bit, moves-lowest}
 use Rattle.kept.proofs.Kept.{kept-within}
-use Rattle.winning.proofs.Seeking.{Seeks, seeks-in-time, seeks-again}
+use Rattle.winning.proofs.Seeking.{Seeks, seeks-in-time, seeks-passed, seeks-again}
 use Rattle.demands.proofs.Plants.{Given, moves-below, from-below}
 use Rattle.demands.proofs.Rules.{IsKept, lost-kept, book-mask, book-goals, rule-iff, book-move, book-into}
 use Rattle.demands.proofs.Winners.{Within, guides, winners, rule-wins}
@@ -77,9 +78,10 @@ module _ {p : Plant} {mask : ℕ} {within : ℕ → Bool} (given : Given p mask 
     -- every state of a sequence of picks has an arrow and is not lost, so that it is kept
     picks-kept : (n : ℕ) → IsKept p mask within (states n)
     picks-kept n =
+        let b = bookWithin p mask within in
         let below = from-below p (given .plant) (states n) (moves n) (states (suc n)) (picks .leads n) in
         lost-kept given (states n) below .0
-        (good-shown p (bookWithin p mask within) (states n) (goals n) (moves n) (picks .good n))
+        (good-shown p b (states n) (arrive b (states n) (goals n)) (moves n) (picks .good n))
 
     -- the goals are sought as the book says
     picks-seek : Seeks p (bookWithin p mask within) states goals
@@ -90,17 +92,19 @@ module _ {p : Plant} {mask : ℕ} {within : ℕ → Bool} (given : Given p mask 
           next = picks .seeks;
           met = λ n i hi e. guides given .met (states n) i (picks-kept n) hi e;
           falls = λ n hn.
-              let into = sym (good-bit (states n) (goals n) (picks-kept n) (moves n)) ∙ picks .good n in
-              rule-iff given (states n) (goals n) hn (moves n) .0 into .ends-well (states (suc n)) (picks .leads n) .1;
+              let i = arrive (bookWithin p mask within) (states n) (goals n) in
+              let into = sym (good-bit (states n) i (picks-kept n) (moves n)) ∙ picks .good n in
+              rule-iff given (states n) i hn (moves n) .0 into .ends-well (states (suc n)) (picks .leads n) .1;
         }
 
-    -- any pick from the set, made anew at each step, serves
+    -- any pick, made anew at each step, serves
     pub picks-serve : Serves p (bookWithin p mask within) states goals
     picks-serve =
         record {
           kept = λ n.
               let k = picks-kept n in
               (kept-within p mask within (states n) k .0, guides given .shown (states n) k);
+          passed = seeks-passed picks-seek;
           in-time = seeks-in-time picks-seek;
           again = seeks-again picks-seek;
         }

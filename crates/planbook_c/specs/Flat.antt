@@ -5,7 +5,7 @@ use mathlib.Core.List.{List}
 use Prim.Native.Nat.{ℕ}
 use lib.ListN.{length}
 use Rattle.statements.specs.Sets.{pick}
-use Rattle.statements.specs.Books.{isLost, waitAt, moveAt, nextGoal}
+use Rattle.statements.specs.Books.{isLost, waitAt, moveAt, arrive}
 use Rattle.statements.specs.Calls.{consultFault, rowPart}
 use Rattle.books.specs.Says.{accepted, keeps, rowStart}
 use Rattle.books.specs.declared.Answer as planner
@@ -29,14 +29,14 @@ plainCost r = record { number = r .number; drops = r .drops; kept = r .kept }
 abbrev pub plainMask : Mask → planner-mask.Mask
 plainMask r = record { number = r .number; mask = r .mask }
 
--- consulting a book b for a state x and the goal i sought: a refusal's number or 0; 1 for a lost state; or the move,
--- the wait and the goal to seek next; every field that is not given is 0
+-- consulting a book b for a state x and the goal i sought: a refusal's number or 0; 1 for a lost state; or the move and
+-- the wait of the goal arrived at, and that goal; every field that is not given is 0
 pub record AdviceSays (b : List ℕ) (x i : ℕ) (r : Advice) : Type 0 where
   pub number : r .number ≡ consultFault b x i
   pub lost : r .lost ≡ pick (accepted b x i && isLost b x) 1 0
-  pub action : r .action ≡ pick (keeps b x i) (moveAt b x i) 0
-  pub wait : r .wait ≡ pick (keeps b x i) (waitAt b x i) 0
-  pub seek : r .seek ≡ pick (keeps b x i) (nextGoal b x i) 0
+  pub action : r .action ≡ pick (keeps b x i) (moveAt b x (arrive b x i)) 0
+  pub wait : r .wait ≡ pick (keeps b x i) (waitAt b x (arrive b x i)) 0
+  pub seek : r .seek ≡ pick (keeps b x i) (arrive b x i) 0
 
 -- the row of a state x in a book b: a refusal's number or 0, where in the book it starts and how long it is; 0 and 0
 -- when refused

@@ -22,7 +22,8 @@ pub struct Cost {
     pub kept: u32,
 }
 
-// What consult answers: a refusal's number or 0, 1 for a lost state, or the move, the wait and the goal to seek next.
+// What consult answers: a refusal's number or 0, 1 for a lost state, or the move and the wait of the goal arrived at,
+// and that goal, to be sought from here on.
 #[repr(C)]
 pub struct Advice {
     pub number: u32,
@@ -104,7 +105,8 @@ pub extern "C" fn planbook_preview(plant: &[u8], book: &[u8], mask: u32, drops: 
     }
 }
 
-// Takes a book, a state and the goal sought. Answers lost, or the move, the wait and the goal to seek next.
+// Takes a book, a state and the goal sought. Answers lost, or the goal arrived at, where every goal that the state
+// serves is passed from the sought one onward in turn, with its move and its wait.
 #[no_mangle]
 pub extern "C" fn planbook_consult(book: &[u8], state: u32, goal: u32) -> Advice
     ensures { λ r. ⌜ AdviceSays (now (book .entry)) state goal r ⌝ }
@@ -119,7 +121,8 @@ pub extern "C" fn planbook_consult(book: &[u8], state: u32, goal: u32) -> Advice
     }
 }
 
-// Takes a plant, a book, a state and the goal sought. Answers all moves that meet the rule of that entry, as a mask.
+// Takes a plant, a book, a state and the goal sought. Answers all moves that meet the rule of the entry of the goal
+// arrived at, as a mask.
 #[no_mangle]
 pub extern "C" fn planbook_moves(plant: &[u8], book: &[u8], state: u32, goal: u32) -> Mask
     ensures { λ r. ⌜ MovesSays (now (plant .entry)) (now (book .entry)) state goal (plainMask r) ⌝ }

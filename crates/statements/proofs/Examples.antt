@@ -9,17 +9,18 @@ use Rattle.statements.specs.Kept.{nearer, listedMove}
 use Rattle.statements.specs.Books.{two, bytesOf, bookLong, entryOf, rowOf, headOf, bookBytes, bookStates}
 use Rattle.statements.specs.Books.{bookMoves}
 use Rattle.statements.specs.Books.{bookGoals, bookCount, bookMask, waitAt, moveAt, isLost, isHeld, bookKept}
-use Rattle.statements.specs.Books.{maskOk, bookHeadOk, rowsOk, bookFault, nextGoal, lessMask, bookWithin}
-use Rattle.statements.specs.Books.{nearerIn, goodMoves}
+use Rattle.statements.specs.Books.{maskOk, bookHeadOk, rowsOk, bookFault, goalAfter, served, passes}
+use Rattle.statements.specs.Books.{arrive, nearerIn, goodMoves, lessMask, bookWithin}
 use Rattle.statements.specs.Books.{madeBook, keptBefore, withdrawnBook, droppedStates}
 use Rattle.statements.specs.Calls.{maskFault, bookRoom, dropRoom, makeFault, alike, lentFault, withdrawFault}
 use Rattle.statements.specs.Calls.{previewFault, consultFault, movesFault, rowPart, answerOf, writtenBy}
 use Rattle.statements.specs.Calls.{standingAfter, standing, answers, toldOf, told, putBy, inService}
 use Rattle.statements.specs.Marked.{plantP, plantStill, plantLoop, plantMay, plantEnd, bookP, lostRow}
-use Rattle.statements.specs.Marked.{bookM1, bookM2, bookM9, allLost, Marked, Marked-moves, Marked-previews}
+use Rattle.statements.specs.Marked.{bookM1, bookM2, bookM9, bookBoth, bookBoth9, bookThree, allLost, Marked}
+use Rattle.statements.specs.Marked.{Marked-arrivals, Marked-moves, Marked-previews}
 
 pub marked : Marked
-unfolding bit numbers every first joined iterate isIn allIn filter word words arrowsFrom plantOf headOk labelsOk rank arrowsOk plantFault allowed inGoal endsIn ends available goesInto moveInto can grown target forced forcedAll keptRound keptWithin level waitOf nearer listedMove two bookLong entryOf rowOf headOf bookBytes bookStates bookMoves bookGoals bookCount bookMask waitAt moveAt isLost isHeld bookKept maskOk bookHeadOk rowsOk bookFault nextGoal lessMask bookWithin madeBook keptBefore withdrawnBook droppedStates maskFault bookRoom dropRoom makeFault alike lentFault withdrawFault consultFault rowPart answerOf writtenBy standingAfter standing answers toldOf told putBy inService bytesOf plantP plantStill plantLoop plantMay plantEnd bookP lostRow bookM1 bookM2 bookM9 allLost
+unfolding bit numbers every first joined iterate isIn allIn filter word words arrowsFrom plantOf headOk labelsOk rank arrowsOk plantFault allowed inGoal endsIn ends available goesInto moveInto can grown target forced forcedAll keptRound keptWithin level waitOf nearer listedMove two bookLong entryOf rowOf headOf bookBytes bookStates bookMoves bookGoals bookCount bookMask waitAt moveAt isLost isHeld bookKept maskOk bookHeadOk rowsOk bookFault goalAfter served passes arrive lessMask bookWithin madeBook keptBefore withdrawnBook droppedStates maskFault bookRoom dropRoom makeFault alike lentFault withdrawFault consultFault rowPart answerOf writtenBy standingAfter standing answers toldOf told putBy inService bytesOf plantP plantStill plantLoop plantMay plantEnd bookP lostRow bookM1 bookM2 bookM9 allLost
 marked =
     record {
       m1 = record { accepted = refl; short = refl; book = refl };
@@ -36,13 +37,31 @@ marked =
       m11 = record { accepted = refl; short = refl; book = refl };
     }
 
+pub marked-arrivals : Marked-arrivals
+unfolding bit numbers every first filter word two bookLong bookStates bookMoves bookGoals bookCount bookMask waitAt moveAt isLost isHeld bookKept maskOk bookHeadOk rowsOk bookFault goalAfter served passes arrive consultFault bytesOf bookThree
+marked-arrivals =
+    record {
+      none = record { accepted = refl; move-is = refl; wait-is = refl; seek-is = refl };
+      others = record { accepted = refl; move-is = refl; wait-is = refl; seek-is = refl };
+      one = record { accepted = refl; move-is = refl; wait-is = refl; seek-is = refl };
+      two = record { accepted = refl; move-is = refl; wait-is = refl; seek-is = refl };
+      round = record { accepted = refl; move-is = refl; wait-is = refl; seek-is = refl };
+      two-round = record { accepted = refl; move-is = refl; wait-is = refl; seek-is = refl };
+      until = record { accepted = refl; move-is = refl; wait-is = refl; seek-is = refl };
+      all = record { accepted = refl; move-is = refl; wait-is = refl; seek-is = refl };
+      last = record { accepted = refl; move-is = refl; wait-is = refl; seek-is = refl };
+      no-goal = refl;
+    }
+
 pub marked-moves : Marked-moves
-unfolding bit numbers every isIn allIn filter bits word words arrowsFrom plantOf headOk labelsOk rank arrowsOk plantFault endsIn ends available goesInto movesInto two bookLong bookStates bookMoves bookGoals bookCount bookMask waitAt moveAt isLost isHeld bookKept maskOk bookHeadOk rowsOk bookFault nearerIn goodMoves alike consultFault movesFault bytesOf plantP plantMay bookP lostRow bookM1 bookM2 bookM9
+unfolding bit numbers every first isIn allIn filter bits word words arrowsFrom plantOf headOk labelsOk rank arrowsOk plantFault endsIn ends available goesInto movesInto two bookLong bookStates bookMoves bookGoals bookCount bookMask waitAt moveAt isLost isHeld bookKept maskOk bookHeadOk rowsOk bookFault goalAfter served passes arrive nearerIn goodMoves alike consultFault movesFault bytesOf plantP plantMay bookP lostRow bookM1 bookM2 bookM9 bookBoth bookBoth9
 marked-moves =
     record {
-      at-goal = record { accepted = refl; moves-are = refl };
       on-the-way = record { accepted = refl; moves-are = refl };
       no-nearer = record { accepted = refl; moves-are = refl };
+      passed = record { accepted = refl; moves-are = refl };
+      at-goal = record { accepted = refl; moves-are = refl };
+      lost-end = record { accepted = refl; moves-are = refl };
       withdrawn = record { accepted = refl; moves-are = refl };
       lost = record { accepted = refl; moves-are = refl };
       partly = record { accepted = refl; moves-are = refl };

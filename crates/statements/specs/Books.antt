@@ -1,11 +1,11 @@
 -- A control book (a strategy table): its bytes, what is read from any book's bytes, and refusals 4 and 5.
 use mathlib.Core.Bool.{Bool, _&&_, _||_, not}
 use mathlib.Core.List.{List, [], _∷_, _++_}
-use Prim.Native.Nat.{ℕ, suc, _+_, _-_, _*_, _/_, _%_, _^_}
+use Prim.Native.Nat.{ℕ, _+_, _-_, _*_, _/_, _%_, _^_}
 use lib.Dec.{eqb, ltb, leb}
 use lib.ListN.{length, drop}
 use lib.Bits.{bitAnd}
-use Rattle.statements.specs.Sets.{pick, bit, numbers, every, joined, isIn, filter}
+use Rattle.statements.specs.Sets.{pick, bit, numbers, every, first, joined, isIn, filter}
 use Rattle.statements.specs.Plants.{word, firstOf, when, Plant, allowed, movesInto}
 use Rattle.statements.specs.Kept.{keptWithin, waitOf, listedMove}
 
@@ -111,9 +111,21 @@ rowsOk b =
 unfoldable pub bookFault : List ℕ → ℕ
 bookFault b = firstOf (when (not (bookHeadOk b)) 4) (when (not (rowsOk b)) 5)
 
--- the goal to seek next: the same one, or at wait 0 the next, after the last the first
-unfoldable pub nextGoal : List ℕ → ℕ → ℕ → ℕ
-nextGoal b x i = pick (eqb (waitAt b x i) 0) (pick (eqb (suc i) (bookGoals b)) 0 (suc i)) i
+-- the goal that comes k places after goal i of n, in turn: after the last the first
+unfoldable pub goalAfter : ℕ → ℕ → ℕ → ℕ
+goalAfter n i k = pick (ltb (i + k) n) (i + k) (i + k - n)
+
+-- a goal is served in a state when its wait there is 0
+unfoldable pub served : List ℕ → ℕ → ℕ → Bool
+served b x i = eqb (waitAt b x i) 0
+
+-- how many goals are passed in state x, from the sought one, i, onward in turn: those served, until one that is not
+unfoldable pub passes : List ℕ → ℕ → ℕ → ℕ
+passes b x i = first (bookGoals b) 0 (λ k. not (served b x (goalAfter (bookGoals b) i k)))
+
+-- the goal arrived at: the next in turn after those passed. If all are, that is the sought one again, which so stays
+unfoldable pub arrive : List ℕ → ℕ → ℕ → ℕ
+arrive b x i = goalAfter (bookGoals b) i (passes b x i)
 
 -- where a move may lead by the rule of the entry of state x and goal i, read on a book's own rows: to the states that
 -- it keeps, above wait 0 to those with a smaller wait

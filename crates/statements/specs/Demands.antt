@@ -1,5 +1,5 @@
--- Demands 2 and 3, and what requests (i), (ii) and (iv) say of the books written and of drop lists, stated: these
--- records are what the product claims of its books. The proofs are in crate demands.
+-- Demands 2 and 3, and what requests (i), (ii), (iv) and (v) say of the books written, of drop lists and of the goals
+-- sought, stated: these records are what the product claims of its books. The proofs are in crate demands.
 use mathlib.Core.Path.{_≡_}
 use mathlib.Core.Logic.{_↔_}
 use mathlib.Core.Bool.{true, false}
@@ -9,8 +9,8 @@ use lib.ListN.{length, getD}
 use Rattle.statements.specs.Sets.{bit, lowest, isIn}
 use Rattle.statements.specs.Plants.{word, Plant, plantOf, allowed, ends, available}
 use Rattle.statements.specs.Books.{bookLong, bookStates, bookMoves, bookGoals, bookCount, bookMask, waitAt}
-use Rattle.statements.specs.Books.{moveAt, isLost, bookKept, goodMoves, lessMask, keptBefore, madeBook}
-use Rattle.statements.specs.Books.{withdrawnBook, droppedStates}
+use Rattle.statements.specs.Books.{moveAt, isLost, bookKept, bookFault, goalAfter, passes, arrive, goodMoves}
+use Rattle.statements.specs.Books.{lessMask, keptBefore, madeBook, withdrawnBook, droppedStates}
 use Rattle.statements.specs.Calls.{makeFault, withdrawFault, Call, standing, answers, told, inService}
 use Rattle.statements.specs.Strategies.{Wins-by, Wins, Forces, following, Picks, Serves}
 
@@ -64,11 +64,14 @@ KeptBefore p b x = keptBefore p b x ≡ true
 abbrev pub Rising : List ℕ → Type 0
 Rising xs = (j k : ℕ) → j < k → k < length xs → getD xs j 0 < getD xs k 0
 
--- what demand 2 and request (i) say of the book b written for a plant with moves in service and a set not to be left
+-- what demand 2 and requests (i) and (v) say of the book b written for a plant with moves in service and a set not to
+-- be left
 pub record Right (p : Plant) (mask : ℕ) (within : ℕ → Type 0) (b : List ℕ) : Type 0 where
   pub is-book : IsBook p mask within b
   -- and of no other list of bytes
   pub no-other : (other : List ℕ) → IsBook p mask within other → other ≡ b
+  -- every call that it is lent to accepts it
+  pub accepted : bookFault b ≡ 0
   -- a wait is at most 1,023
   pub short : (x i : ℕ) → x < p .states → i < p .goals → Wins p mask within x → waitAt b x i ≤ 1023
   -- following the book from a kept state and any first goal wins without leaving kept states
@@ -80,9 +83,25 @@ pub record Right (p : Plant) (mask : ℕ) (within : ℕ → Type 0) (b : List �
   -- the set of a kept state is not empty, and the listed move is its lowest
   pub listed : (x i : ℕ) → x < p .states → i < p .goals → isLost b x ≡ false →
       (bit (moveAt b x i) (goodMoves p b x i) ≡ true) × (moveAt b x i ≡ lowest (p .moves) (goodMoves p b x i))
-  -- any pick from the set, made anew at each step, serves, from any first goal
+  -- any pick from the set of the goal arrived at, made anew at each step, serves, from any first goal
   pub picks : (states goals moves : ℕ → ℕ) → goals 0 < p .goals → Picks p b states goals moves →
       Serves p b states goals
+
+-- request (v), of any book, any state and any goal sought of the book's: every goal that the state serves is passed,
+-- from the sought one onward in turn, until one that it does not serve; if it serves all of them, the sought one stays
+pub record Arriving : Type 0 where
+  -- the goal arrived at is a goal
+  pub goal : (b : List ℕ) (x i : ℕ) → i < bookGoals b → arrive b x i < bookGoals b
+  -- the goals passed are served
+  pub passed : (b : List ℕ) (x i k : ℕ) → k < passes b x i → waitAt b x (goalAfter (bookGoals b) i k) ≡ 0
+  -- if some goal is not served, neither is the one arrived at
+  pub until : (b : List ℕ) (x i j : ℕ) → i < bookGoals b → j < bookGoals b → 0 < waitAt b x j →
+      0 < waitAt b x (arrive b x i)
+  -- if all are, the sought one stays
+  pub stays : (b : List ℕ) (x i : ℕ) → i < bookGoals b → ((j : ℕ) → j < bookGoals b → waitAt b x j ≡ 0) →
+      arrive b x i ≡ i
+  -- to arrive again from the goal arrived at changes nothing
+  pub idempotent : (b : List ℕ) (x i : ℕ) → i < bookGoals b → arrive b x (arrive b x i) ≡ arrive b x i
 
 -- demand 2: kept states, waits and moves are those of strategies over whole histories
 pub record Demand-2 : Type 0 where
@@ -109,7 +128,7 @@ pub record Demand-3 : Type 0 where
   -- the standing book is that of a making afresh with the moves in service
   pub as-afresh : (s : List ℕ) (mask room : ℕ) (calls : List Call) → makeFault s mask room ≡ 0 →
       standing s (madeBook (plantOf s) mask) calls ≡ madeBook (plantOf s) (inService (plantOf s) mask calls)
-  -- so that demand 2 and request (i) hold of it
+  -- so that demand 2 and requests (i) and (v) hold of it
   pub right : (s : List ℕ) (mask room : ℕ) (calls : List Call) → makeFault s mask room ≡ 0 →
       Right (plantOf s) (inService (plantOf s) mask calls) (Allowed (plantOf s))
       (standing s (madeBook (plantOf s) mask) calls)

@@ -1,10 +1,10 @@
--- The marked examples M1 to M11 of document 01 as one table, and one each for requests (i) and (iv). Plants and books
--- are written as their two-byte numbers.
+-- The marked examples M1 to M11 of document 01 as one table, with M10 as request (v) has it, and one each for requests
+-- (i), (iv) and (v). Plants and books are written as their two-byte numbers.
 use mathlib.Core.Path.{_≡_}
 use mathlib.Core.List.{List, [], _∷_, _++_}
 use Prim.Native.Nat.{ℕ, _-_}
 use Rattle.statements.specs.Plants.{plantOf}
-use Rattle.statements.specs.Books.{bytesOf, bookCount, waitAt, moveAt, nextGoal, goodMoves, madeBook}
+use Rattle.statements.specs.Books.{bytesOf, bookCount, waitAt, moveAt, arrive, goodMoves, madeBook}
 use Rattle.statements.specs.Books.{withdrawnBook, droppedStates}
 use Rattle.statements.specs.Calls.{makeFault, withdrawFault, previewFault, consultFault, movesFault}
 
@@ -46,6 +46,17 @@ bookM2 = bookP 3 3 (0 ∷ 0 ∷ 2 ∷ 0 ∷ 2 ∷ 0 ∷ 1 ∷ 0 ∷ 1 ∷ 0 ∷ 
 unfoldable pub bookM9 : List ℕ
 bookM9 = bookP 2 7 (0 ∷ 0 ∷ 2 ∷ 0 ∷ (lostRow ++ (1 ∷ 0 ∷ 0 ∷ 0 ∷ lostRow)))
 
+-- that of M1, and that of M9, with state 2 serving both goals, which nobody made
+unfoldable pub bookBoth : List ℕ
+bookBoth = bookP 3 7 (0 ∷ 0 ∷ 2 ∷ 0 ∷ 1 ∷ 2 ∷ 1 ∷ 0 ∷ 0 ∷ 0 ∷ 0 ∷ 0 ∷ lostRow)
+
+unfoldable pub bookBoth9 : List ℕ
+bookBoth9 = bookP 2 7 (0 ∷ 0 ∷ 2 ∷ 0 ∷ (lostRow ++ (0 ∷ 0 ∷ 0 ∷ 0 ∷ lostRow)))
+
+-- one kept state, three moves and three goals with these waits; the move of goal i is i
+unfoldable pub bookThree : ℕ → ℕ → ℕ → List ℕ
+bookThree v w z = bytesOf (1 ∷ 3 ∷ 3 ∷ 1 ∷ 7 ∷ 0 ∷ 16 ∷ 28 ∷ v ∷ 0 ∷ w ∷ 1 ∷ z ∷ 2 ∷ [])
+
 unfoldable pub allLost : ℕ → List ℕ
 allLost mask = bookP 0 mask (lostRow ++ (lostRow ++ (lostRow ++ lostRow)))
 
@@ -63,12 +74,12 @@ pub record Withdraws (b : List ℕ) (gone : ℕ) (after dropped : List ℕ) : Ty
   pub book : withdrawnBook (plantOf plantP) b gone ≡ after
   pub drops : droppedStates b after ≡ dropped
 
--- consulting a book for a state and a goal gives a move, a wait and the goal to seek next
+-- consulting a book for a state and a goal gives the move and the wait of the goal arrived at, and that goal
 pub record Consults (b : List ℕ) (x i move wait seek : ℕ) : Type 0 where
   pub accepted : consultFault b x i ≡ 0
-  pub move-is : moveAt b x i ≡ move
-  pub wait-is : waitAt b x i ≡ wait
-  pub seek-is : nextGoal b x i ≡ seek
+  pub move-is : moveAt b x (arrive b x i) ≡ move
+  pub wait-is : waitAt b x (arrive b x i) ≡ wait
+  pub seek-is : arrive b x i ≡ seek
 
 pub record Marked : Type 0 where
   pub m1 : Makes plantP 7 48 bookM1
@@ -81,25 +92,47 @@ pub record Marked : Type 0 where
   pub m8 : Makes plantMay 1 24 (bytesOf (2 ∷ 1 ∷ 1 ∷ 1 ∷ 1 ∷ 0 ∷ 16 ∷ 24 ∷ 65535 ∷ 65535 ∷ 0 ∷ 0 ∷ []))
   pub m9 : Withdraws bookM9 0 (allLost 7) (0 ∷ 2 ∷ [])
   pub m10-first : Consults bookM1 0 1 0 2 1
-  pub m10-second : Consults bookM1 2 1 0 0 0
+  pub m10-second : Consults bookM1 2 1 0 1 0
   pub m11 : Makes plantEnd 1 24 (bytesOf (2 ∷ 1 ∷ 1 ∷ 0 ∷ 1 ∷ 0 ∷ 16 ∷ 24 ∷ 65535 ∷ 65535 ∷ 65535 ∷ 65535 ∷ []))
 
--- the call for all good moves on P, a book, a state and a goal is accepted and gives this mask
+pub record Marked-arrivals : Type 0 where
+  -- a goal that is not served stays, whatever the others are
+  pub none : Consults (bookThree 4 5 6) 0 1 1 5 1
+  pub others : Consults (bookThree 0 5 0) 0 1 1 5 1
+  -- one served goal is passed, or two, and after the last comes the first
+  pub one : Consults (bookThree 4 0 6) 0 1 2 6 2
+  pub two : Consults (bookThree 0 0 6) 0 0 2 6 2
+  pub round : Consults (bookThree 4 0 0) 0 2 0 4 0
+  pub two-round : Consults (bookThree 0 5 0) 0 2 1 5 1
+  -- but none past the first that is not served
+  pub until : Consults (bookThree 0 5 0) 0 0 1 5 1
+  -- all are served: the sought one stays
+  pub all : Consults (bookThree 0 0 0) 0 1 1 0 1
+  pub last : Consults (bookThree 0 0 0) 0 2 2 0 2
+  -- refused: the goal sought is past the last
+  pub no-goal : consultFault (bookThree 0 0 0) 0 3 ≡ 8
+
+-- the call for all good moves on P, a book, a state and a goal is accepted and gives this mask, that of the goal
+-- arrived at
 pub record Gives (b : List ℕ) (x i mask : ℕ) : Type 0 where
   pub accepted : movesFault plantP b x i ≡ 0
-  pub moves-are : goodMoves (plantOf plantP) b x i ≡ mask
+  pub moves-are : goodMoves (plantOf plantP) b x (arrive b x i) ≡ mask
 
 pub record Marked-moves : Type 0 where
-  -- at wait 0 every move into kept states, above it every move into smaller waits
-  pub at-goal : Gives bookM1 2 1 5
+  -- above wait 0 every move into smaller waits
   pub on-the-way : Gives bookM1 0 1 3
   -- not one into a kept state that is no nearer, or into a lost one
   pub no-nearer : Gives bookM1 1 0 4
+  -- a goal that is served is passed: not the moves of the one sought
+  pub passed : Gives bookM1 2 1 1
+  -- at wait 0, where all are served, every move into kept states, and not one into a lost one
+  pub at-goal : Gives bookBoth 2 1 5
+  pub lost-end : Gives bookBoth9 2 1 1
   -- not one that is out of service
-  pub withdrawn : Gives bookM2 2 1 1
+  pub withdrawn : Gives bookM2 1 0 1
   -- none in a lost state
   pub lost : Gives bookM1 3 0 0
-  -- in a book that nobody made: state 1 is lost there, so the set may leave out the listed move, and be empty
+  -- in a book that nobody made: state 1 is lost there, so that a kept state has a move less, or none
   pub partly : Gives bookM9 2 1 1
   pub empty : Gives bookM9 0 0 0
   -- refused: a state and a goal past the last, before them a book for another plant

@@ -8,7 +8,7 @@ use mathlib.Core.Option.{Option, none, some}
 use Prim.Native.Nat.{ℕ, zero, suc, _+_, _≤_, _<_}
 use Rattle.statements.specs.Sets.{bit, isIn}
 use Rattle.statements.specs.Plants.{Plant, inGoal, ends, available}
-use Rattle.statements.specs.Books.{waitAt, moveAt, isLost, nextGoal, goodMoves}
+use Rattle.statements.specs.Books.{waitAt, moveAt, isLost, goalAfter, passes, arrive, goodMoves}
 
 -- a state that was passed and the move made there
 pub record Turn : Type 0 where
@@ -67,27 +67,31 @@ pub record Forces-by (p : Plant) (mask : ℕ) (within : ℕ → Type 0) (start i
 abbrev pub Forces : Plant → ℕ → (ℕ → Type 0) → ℕ → ℕ → ℕ → Type 0
 Forces p mask within start i n = (f : Strategy) × Forces-by p mask within start i n f
 
--- following a book as consult answers: the goal sought after some turns, begun with a first goal, and the move there
+-- following a book as consult answers: the goal sought after some turns, begun with a first goal, is the one arrived at
+-- last; the move is that of the goal arrived at in the present state
 unfoldable pub soughtAfter : List ℕ → ℕ → List Turn → ℕ
 soughtAfter b goal [] = goal
-soughtAfter b goal (t ∷ past) = nextGoal b (t .state) (soughtAfter b goal past)
+soughtAfter b goal (t ∷ past) = arrive b (t .state) (soughtAfter b goal past)
 
 unfoldable pub following : List ℕ → ℕ → List Turn → ℕ → Option ℕ
 following b goal past x =
-    elim (isLost b x) [ true ↦ none | false ↦ some (moveAt b x (soughtAfter b goal past)) ]
+    elim (isLost b x) [ true ↦ none | false ↦ some (moveAt b x (arrive b x (soughtAfter b goal past))) ]
 
 -- picking from a book: an endless sequence of states, goals sought and moves. Each move is any one that meets the rule
--- for its state and goal, for whatever reason it was picked; the next state is the end of one of its arrows, and the
--- next goal the one that consult says
+-- for its state and the goal arrived at there, for whatever reason it was picked; the next state is the end of one of
+-- its arrows, and the next goal sought the one arrived at
 pub record Picks (p : Plant) (b : List ℕ) (states goals moves : ℕ → ℕ) : Type 0 where
-  pub good : (n : ℕ) → bit (moves n) (goodMoves p b (states n) (goals n)) ≡ true
+  pub good : (n : ℕ) → bit (moves n) (goodMoves p b (states n) (arrive b (states n) (goals n))) ≡ true
   pub leads : (n : ℕ) → isIn (states (suc n)) (ends p (states n) (moves n)) ≡ true
-  pub seeks : (n : ℕ) → goals (suc n) ≡ nextGoal b (states n) (goals n)
+  pub seeks : (n : ℕ) → goals (suc n) ≡ arrive b (states n) (goals n)
 
--- such a sequence serves: all its states are kept in the book, the goal sought at any moment is met within the wait
--- shown there, and each goal is met again and again
+-- such a sequence serves: all its states are kept in the book; at any moment the goals passed are met, and the goal
+-- arrived at is met within the wait shown; and each goal is met again and again
 pub record Serves (p : Plant) (b : List ℕ) (states goals : ℕ → ℕ) : Type 0 where
   pub kept : (n : ℕ) → (states n < p .states) × (isLost b (states n) ≡ false)
+  pub passed : (n k : ℕ) → k < passes b (states n) (goals n) →
+      inGoal p (goalAfter (p .goals) (goals n) k) (states n) ≡ true
   pub in-time : (n : ℕ) →
-      (m : ℕ) × (n ≤ m) × (m ≤ n + waitAt b (states n) (goals n)) × (inGoal p (goals n) (states m) ≡ true)
+      let i = arrive b (states n) (goals n) in
+      (m : ℕ) × (n ≤ m) × (m ≤ n + waitAt b (states n) i) × (inGoal p i (states m) ≡ true)
   pub again : (i n : ℕ) → i < p .goals → (m : ℕ) × (n ≤ m) × (inGoal p i (states m) ≡ true)

@@ -9,12 +9,12 @@ use Prim.Native.Nat.{ℕ, suc, _≤_, _<_}
 use native.Mathlib.Omega.{arith}
 use Rattle.statements.specs.Sets.{isIn}
 use Rattle.statements.specs.Plants.{Plant, inGoal, ends}
-use Rattle.statements.specs.Books.{bookGoals, waitAt, moveAt, isLost}
+use Rattle.statements.specs.Books.{bookGoals, waitAt, moveAt, isLost, arrive}
 use Rattle.statements.specs.Strategies.{Turn, Strategy, PicksMove, Play, turns, Run, Holds-by, Wins-by, Forces}
 use Rattle.statements.specs.Strategies.{soughtAfter, following}
 use Rattle.statements.specs.Demands.{Meets}
-use Rattle.winning.proofs.Goals.{next-below}
-use Rattle.winning.proofs.Seeking.{served, Seeks, seeks-again}
+use Rattle.winning.proofs.Goals.{arrive-below}
+use Rattle.winning.proofs.Seeking.{falls-to-0, Seeks, seeks-again}
 
 -- a strategy steers within a set: in each state of the set it picks an available move for some goal, told from the
 -- turns so far and the present state, whose arrows end in the set, with a smaller wait for that goal if it is not 0
@@ -89,9 +89,9 @@ module _ {p : Plant} {mask : ℕ} {kept : ℕ → Type 0} {b : List ℕ} (g : Gu
       in-time = λ states moves r.
           let begun : waitAt b (states 0) i ≡ waitAt b x i = ap (λ y. waitAt b y i) (r 0) in
           let near = steers-nears (for-goal i h) x k states moves r in
-          let met = served (waitAt b) states (λ n. i) (λ n w. (refl, near n .1 w)) 0 in
-          let m = met .moment in
-          (m, omega arith, g .met (states m) i (near m .0) h (met .over));
+          let met = falls-to-0 (λ m. waitAt b (states m) i) (λ m. kept (states m))
+          (λ m c w. (near (suc m) .0, near m .1 w)) 0 (near 0 .0) in
+          (met .moment, omega arith, g .met (states (met .moment)) i (met .still) h (met .over));
     },
   )
 
@@ -100,14 +100,15 @@ module _ {p : Plant} {mask : ℕ} {kept : ℕ → Type 0} {b : List ℕ} (g : Gu
     sought-below : (past : List Turn) → soughtAfter b goal past < bookGoals b
     unfolding soughtAfter
     sought-below [] = rw (g .goals) h
-    sought-below (t ∷ past) = next-below b (t .state) (soughtAfter b goal past) (sought-below past)
+    sought-below (t ∷ past) = arrive-below b (t .state) (soughtAfter b goal past) (sought-below past)
 
-    -- following the book steers by the goal sought
-    for-sought : Steers p mask kept (waitAt b) (following b goal) (λ past y. soughtAfter b goal past)
+    -- following the book steers by the goal arrived at
+    for-sought : Steers p mask kept (waitAt b) (following b goal) (λ past y. arrive b y (soughtAfter b goal past))
     unfolding following
     for-sought =
-        book-steers (following b goal) (λ past y. soughtAfter b goal past)
-        (λ past y. rw (← g .goals) (sought-below past)) (λ past y c. rw (g .shown y c, following))
+        book-steers (following b goal) (λ past y. arrive b y (soughtAfter b goal past))
+        (λ past y. rw (← g .goals) (arrive-below b y (soughtAfter b goal past) (sought-below past)))
+        (λ past y c. rw (g .shown y c, following))
 
     -- each of its runs seeks the goals as the book says
     run-seeks :

@@ -1,36 +1,44 @@
--- How the goal sought moves on: above wait 0 it stays, and at wait 0 the next one comes nearer to every other in turn.
+-- The goal arrived at: the goals passed are served, it is served only if all are, and the sought one then stays; to
+-- arrive again changes nothing; and passing a goal comes nearer to every other that is not served, in turn.
 -- Assumes nothing.
 use mathlib.Core.Path.{_≡_}
 use mathlib.Core.Logic.{_⊎_, inl, inr}
+use mathlib.Core.Bool.{Bool, true, not}
 use mathlib.Core.List.{List}
-use Prim.Native.Nat.{ℕ, suc, _+_, _-_, _≤_, _<_}
+use Prim.Native.Nat.{ℕ, _+_, _-_, _≤_, _<_}
 use native.Mathlib.Omega.{arith}
-use native.Mathlib.Decide.{decLt, ℕ-discrete}
+use native.Mathlib.Decide.{decLt}
 use lib.Dec.{leb}
-use borrow.Author.Tests.{eq-eqb, ne-eqb, le-leb, lt-leb}
+use borrow.Author.Tests.{eqb-true, eqb-false, ne-eqb, lt-ltb, le-ltb, le-leb, lt-leb, not-true, not-false}
 use Rattle.statements.specs.Sets.{pick}
-use Rattle.statements.specs.Books.{bookGoals, waitAt, nextGoal}
+use Rattle.statements.specs.Books.{bookGoals, waitAt, goalAfter, served, passes, arrive}
+use Rattle.statements.specs.Demands.{Arriving}
+use Rattle.sets.proofs.First.{first-range, first-holds, first-least, first-before}
 
--- above wait 0 the goal sought stays
-pub stays-sought : (b : List ℕ) (x s : ℕ) → 0 < waitAt b x s → nextGoal b x s ≡ s
-unfolding nextGoal
-stays-sought b x s h = rw (ne-eqb (waitAt b x s) 0 (λ e. omega arith))
+-- goals in turn
+module _ (n i k : ℕ) where
+  -- k places after goal i without going round, and going round
+  pub after-on : i + k < n → goalAfter n i k ≡ i + k
+  unfolding goalAfter
+  after-on h = rw (lt-ltb (i + k) n h)
 
--- at wait 0 the next goal is sought
-passes-on : (b : List ℕ) (x s : ℕ) → waitAt b x s ≡ 0 → (suc s ≡ bookGoals b → ⊥) → nextGoal b x s ≡ suc s
-unfolding nextGoal
-passes-on b x s h e = rw (eq-eqb (waitAt b x s) 0 h, ne-eqb (suc s) (bookGoals b) e)
+  pub after-round : n ≤ i + k → goalAfter n i k ≡ i + k - n
+  unfolding goalAfter
+  after-round h = rw (le-ltb (i + k) n h)
 
--- after the last goal the first is sought
-passes-round : (b : List ℕ) (x s : ℕ) → waitAt b x s ≡ 0 → suc s ≡ bookGoals b → nextGoal b x s ≡ 0
-unfolding nextGoal
-passes-round b x s h e = rw (eq-eqb (waitAt b x s) 0 h, eq-eqb (suc s) (bookGoals b) e)
+  -- it is a goal
+  pub after-below : i < n → k ≤ n → goalAfter n i k < n
+  after-below hi hk =
+      elim (decLt (i + k) n) [
+        | yes l ↦ rw (after-on l) l
+        | no l ↦ rw (after-round (omega arith)) (omega arith)
+      ]
 
--- how many goals are passed from goal s on, in turn, before goal i
+-- how many places goal i comes after goal s
 pub ahead : ℕ → ℕ → ℕ → ℕ
 ahead n s i = pick (leb s i) (i - s) (i + n - s)
 
--- goal i comes after goal s without going round, or going round
+-- without going round, and going round
 ahead-on : (n s i : ℕ) → s ≤ i → ahead n s i ≡ i - s
 unfolding ahead
 ahead-on n s i h = rw (le-leb s i h)
@@ -39,39 +47,151 @@ ahead-round : (n s i : ℕ) → i < s → ahead n s i ≡ i + n - s
 unfolding ahead
 ahead-round n s i h = rw (lt-leb s i h)
 
--- passing a goal comes nearer to every other one
-nears-others :
-    (b : List ℕ) (x s i : ℕ) → s < bookGoals b → i < bookGoals b → waitAt b x s ≡ 0 → (s ≡ i → ⊥) →
-    ahead (bookGoals b) (nextGoal b x s) i < ahead (bookGoals b) s i
-nears-others b x s i hs hi w other =
-    let n = bookGoals b in
-    elim (ℕ-discrete (suc s) n) [
-      | yes e ↦
-          rw (passes-round b x s w e)
-          (omega (arith, ahead-on n 0 i (omega arith), ahead-round n s i (omega arith)))
-      | no e ↦
-          rw (passes-on b x s w e)
-          (elim (decLt s i) [
-            | yes l ↦ omega (arith, ahead-on n (suc s) i (omega arith), ahead-on n s i (omega arith))
-            | no l ↦ omega (arith, ahead-round n (suc s) i (omega arith), ahead-round n s i (omega arith))
-          ])
+-- it is less than all the goals, and so many places after goal s comes goal i
+ahead-below : (n s i : ℕ) → s < n → i < n → ahead n s i < n
+ahead-below n s i hs hi =
+    elim (decLt i s) [
+      | yes l ↦ rw (ahead-round n s i l) (omega arith)
+      | no l ↦ rw (ahead-on n s i (omega arith)) (omega arith)
     ]
 
--- at wait 0 of the goal sought any goal has wait 0 too, or the next goal comes nearer to it in turn
-pub nears :
-    (b : List ℕ) (x s i : ℕ) → s < bookGoals b → i < bookGoals b → waitAt b x s ≡ 0 →
-    (waitAt b x i ≡ 0) ⊎ (ahead (bookGoals b) (nextGoal b x s) i < ahead (bookGoals b) s i)
-nears b x s i hs hi w =
-    elim (ℕ-discrete s i) [ yes e ↦ inl (rw e at w) | no e ↦ inr (nears-others b x s i hs hi w e) ]
+after-ahead : (n s i : ℕ) → s < n → i < n → goalAfter n s (ahead n s i) ≡ i
+after-ahead n s i hs hi =
+    elim (decLt i s) [
+      | yes l ↦ rw (ahead-round n s i l) (omega (arith, after-round n s (i + n - s) (omega arith)))
+      | no l ↦ rw (ahead-on n s i (omega arith)) (omega (arith, after-on n s (i - s) (omega arith)))
+    ]
 
--- the next goal is a goal
-pub next-below : (b : List ℕ) (x s : ℕ) → s < bookGoals b → nextGoal b x s < bookGoals b
-next-below b x s h =
-    elim (decLt 0 (waitAt b x s)) [
-      | yes w ↦ rw (stays-sought b x s w) h
-      | no w ↦
-          elim (ℕ-discrete (suc s) (bookGoals b)) [
-            | yes e ↦ rw (passes-round b x s (omega arith) e) (omega arith)
-            | no e ↦ rw (passes-on b x s (omega arith) e) (omega arith)
+-- from a goal k places on, no more than goal i is, it is k places less
+ahead-after :
+    (n s i k : ℕ) → s < n → i < n → k ≤ ahead n s i → ahead n (goalAfter n s k) i ≡ ahead n s i - k
+ahead-after n s i k hs hi hk =
+    elim (decLt i s) [
+      | yes l ↦
+          let far = ahead-round n s i l in
+          elim (decLt (s + k) n) [
+            | yes m ↦ rw (after-on n s k m) (omega (arith, ahead-round n (s + k) i (omega arith)))
+            | no m ↦
+                rw (after-round n s k (omega arith)) (omega (arith, ahead-on n (s + k - n) i (omega arith)))
           ]
+      | no l ↦
+          let near = ahead-on n s i (omega arith) in
+          rw (after-on n s k (omega arith)) (omega (arith, ahead-on n (s + k) i (omega arith)))
     ]
+
+-- the goals that are passed in a state of a book, from a sought one on
+module _ (b : List ℕ) (x i : ℕ) where
+  -- the goal k places on is not served
+  abbrev pub Stops : ℕ → Bool
+  Stops k = not (served b x (goalAfter (bookGoals b) i k))
+
+  -- above wait 0 it is not
+  stops-above : (k : ℕ) → 0 < waitAt b x (goalAfter (bookGoals b) i k) → Stops k ≡ true
+  unfolding served
+  stops-above k h = rw (ne-eqb (waitAt b x (goalAfter (bookGoals b) i k)) 0 (λ e. omega arith))
+
+  -- at most all goals are passed
+  pub passes-range : passes b x i ≤ bookGoals b
+  unfolding passes
+  passes-range = omega (arith, first-range (bookGoals b) 0 Stops)
+
+  -- those passed are served
+  pub passes-served : (k : ℕ) → k < passes b x i → waitAt b x (goalAfter (bookGoals b) i k) ≡ 0
+  unfolding passes served
+  passes-served k h =
+      eqb-true _ 0 (not-false _ (first-before (bookGoals b) 0 Stops k (omega arith) h))
+
+  -- a goal that is not served is not passed
+  passes-least :
+      (k : ℕ) → k < bookGoals b → 0 < waitAt b x (goalAfter (bookGoals b) i k) → passes b x i ≤ k
+  unfolding passes
+  passes-least k h w = first-least (bookGoals b) 0 Stops k (omega arith) (omega arith) (stops-above k w)
+
+  -- if not all are passed, the goal arrived at is not served
+  passes-stops : passes b x i < bookGoals b → 0 < waitAt b x (arrive b x i)
+  unfolding passes arrive served
+  passes-stops h =
+      let stop = not-true (served b x (arrive b x i)) (first-holds (bookGoals b) 0 Stops (omega arith)) in
+      omega (arith, eqb-false (waitAt b x (arrive b x i)) 0 stop)
+
+  module _ (hi : i < bookGoals b) where
+    -- the goal arrived at is a goal
+    pub arrive-below : arrive b x i < bookGoals b
+    unfolding arrive
+    arrive-below = after-below (bookGoals b) i (passes b x i) hi passes-range
+
+    -- no goal is passed: the sought one stays
+    arrive-none : passes b x i ≡ 0 → arrive b x i ≡ i
+    unfolding arrive
+    arrive-none e = rw e (omega (arith, after-on (bookGoals b) i 0 (omega arith)))
+
+    -- all are: it stays
+    arrive-all : passes b x i ≡ bookGoals b → arrive b x i ≡ i
+    unfolding arrive
+    arrive-all e = rw e (omega (arith, after-round (bookGoals b) i (bookGoals b) (omega arith)))
+
+    -- a sought goal that is not served stays
+    pub arrive-unserved : 0 < waitAt b x i → arrive b x i ≡ i
+    arrive-unserved w =
+        let here : goalAfter (bookGoals b) i 0 ≡ i = omega (arith, after-on (bookGoals b) i 0 (omega arith)) in
+        arrive-none (omega (arith, passes-least 0 (omega arith) (rw here w)))
+
+    -- if some goal is not served, neither is the one arrived at
+    arrive-until : (j : ℕ) → j < bookGoals b → 0 < waitAt b x j → 0 < waitAt b x (arrive b x i)
+    arrive-until j hj w =
+        let n = bookGoals b in
+        let far = ahead-below n i j hi hj in
+        passes-stops (omega (arith, passes-least (ahead n i j) far (rw (after-ahead n i j hi hj) w)))
+
+    -- a goal arrived at that is served is the sought one, all being passed
+    arrive-served : waitAt b x (arrive b x i) ≡ 0 → arrive b x i ≡ i
+    arrive-served e =
+        elim (decLt (passes b x i) (bookGoals b)) [
+          | yes l ↦ absurd (omega (arith, passes-stops l))
+          | no l ↦ arrive-all (omega (arith, passes-range))
+        ]
+
+    -- if all are served, the sought one stays
+    arrive-stays : ((j : ℕ) → j < bookGoals b → waitAt b x j ≡ 0) → arrive b x i ≡ i
+    arrive-stays all = arrive-served (all (arrive b x i) arrive-below)
+
+    -- where the sought goal is served any goal is too, or the one arrived at comes nearer to it in turn
+    pub nears :
+        (j : ℕ) → j < bookGoals b → waitAt b x i ≡ 0 →
+        (waitAt b x j ≡ 0) ⊎ (ahead (bookGoals b) (arrive b x i) j < ahead (bookGoals b) i j)
+    unfolding arrive
+    nears j hj w =
+        let n = bookGoals b in
+        let k = passes b x i in
+        elim (decLt 0 (waitAt b x j)) [
+          | yes l ↦
+              let far = ahead-below n i j hi hj in
+              let least = passes-least (ahead n i j) far (rw (after-ahead n i j hi hj) l) in
+              elim (decLt 0 k) [
+                | yes m ↦ inr (omega (arith, ahead-after n i j k hi hj least))
+                | no m ↦
+                    let none : k ≡ 0 = omega arith in
+                    let here = arrive-none none in
+                    absurd (omega (arith, rw here at (passes-stops (omega arith))))
+              ]
+          | no l ↦ inl (omega arith)
+        ]
+
+-- to arrive again changes nothing
+pub arrive-again : (b : List ℕ) (x i : ℕ) → i < bookGoals b → arrive b x (arrive b x i) ≡ arrive b x i
+arrive-again b x i hi =
+    elim (decLt 0 (waitAt b x (arrive b x i))) [
+      | yes l ↦ arrive-unserved b x (arrive b x i) (arrive-below b x i hi) l
+      | no l ↦ let same = arrive-served b x i hi (omega arith) in rw (same, same)
+    ]
+
+-- arriving is what request (v) says of it
+pub arriving : Arriving
+arriving =
+    record {
+      goal = arrive-below;
+      passed = passes-served;
+      until = λ b x i j hi. arrive-until b x i hi j;
+      stays = arrive-stays;
+      idempotent = arrive-again;
+    }

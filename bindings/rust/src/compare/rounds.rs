@@ -108,13 +108,15 @@ fn withdraw_and_preview(
     withdrawn
 }
 
-/// The first, the last and some other state, consulted for some goals, with their good moves and rows; and what is just
-/// out of range.
+/// The first, the last and some other state, consulted for every goal, with their good moves for some goals and their
+/// rows; and what is just out of range.
 fn look_up(comparison: &mut Comparison, plant: &[u8], book: &[u8], model: &Model, random: &mut Random) {
     let (states, goals) = (model.labels.len() as u32, u32::from(model.goals));
     for state in [0, random.below(states as usize) as u32, states - 1] {
-        for goal in [random.below(goals as usize) as u32, goals - 1] {
+        for goal in 0..goals {
             comparison.consult(book, state, goal);
+        }
+        for goal in [random.below(goals as usize) as u32, goals - 1] {
             comparison.moves(plant, book, state, goal);
         }
         comparison.row(book, state);
@@ -128,21 +130,25 @@ fn look_up(comparison: &mut Comparison, plant: &[u8], book: &[u8], model: &Model
     comparison.row(book, far);
 }
 
-/// The good moves for every goal, in all states of a small plant and in some of a large one, evenly spread; `first`
-/// says which.
-fn every_set(comparison: &mut Comparison, plant: &[u8], book: &[u8], model: &Model, first: usize) {
-    let states = model.labels.len();
+/// Every goal in all states of a small plant and in some of a large one, evenly spread; `first` says which.
+fn places(model: &Model, first: usize) -> impl Iterator<Item = (u32, u32)> {
+    let (states, goals) = (model.labels.len(), u32::from(model.goals));
     let step = states.div_ceil(24);
-    for state in (first % step..states).step_by(step) {
-        for goal in 0..model.goals {
-            comparison.moves(plant, book, state as u32, goal.into());
-        }
+    (first % step..states).step_by(step).flat_map(move |state| (0..goals).map(move |goal| (state as u32, goal)))
+}
+
+/// Consults and good moves at these places.
+fn every_goal(comparison: &mut Comparison, plant: &[u8], book: &[u8], model: &Model, first: usize) {
+    for (state, goal) in places(model, first) {
+        comparison.consult(book, state, goal);
+        comparison.moves(plant, book, state, goal);
     }
 }
 
-/// The good moves for some state and goal.
-fn any_set(comparison: &mut Comparison, plant: &[u8], book: &[u8], model: &Model, random: &mut Random) {
+/// A consult and the good moves for some state and goal.
+fn any_goal(comparison: &mut Comparison, plant: &[u8], book: &[u8], model: &Model, random: &mut Random) {
     let [state, goal] = [model.labels.len(), model.goals.into()].map(|count| random.below(count) as u32);
+    comparison.consult(book, state, goal);
     comparison.moves(plant, book, state, goal);
 }
 
@@ -177,7 +183,7 @@ fn list_of_calls(comparison: &mut Comparison, random: &mut Random) {
             standing = book;
         }
         comparison.made_afresh(&plant, in_service, &standing);
-        any_set(comparison, &plant, &standing, &model, random);
+        any_goal(comparison, &plant, &standing, &model, random);
     }
     look_up(comparison, &plant, &standing, &model, random);
 }
@@ -191,20 +197,20 @@ fn told(model: &Model, mask: u32, short: bool) -> u32 {
     }
 }
 
-/// The good moves in books that were made and withdrawn from for the plant, in one that nobody made, and in books that
-/// were made for other plants: one with the same counts, and one with mostly others.
+/// Consults and good moves in books that were made and withdrawn from for the plant, in one that nobody made, and in
+/// books that were made for other plants: one with the same counts, and one with mostly others.
 fn good_moves(comparison: &mut Comparison, random: &mut Random) {
     let model = any_plant(random);
     let plant = model.bytes();
     let lengths = [book_length(&model), list_length(&model)];
     let (_, mut book) = comparison.make(&plant, many_moves(&model, random), lengths[0]);
     for _ in 0..3 {
-        every_set(comparison, &plant, &book, &model, random.below(1024));
+        every_goal(comparison, &plant, &book, &model, random.below(1024));
         book = withdraw_and_preview(comparison, &plant, &book, few_moves(&model, random), lengths).1;
     }
-    every_set(comparison, &plant, &invent_book(&model, random), &model, random.below(1024));
+    every_goal(comparison, &plant, &invent_book(&model, random), &model, random.below(1024));
     let (_, book) = comparison.make(&turned(&model).bytes(), many_moves(&model, random), lengths[0]);
-    every_set(comparison, &plant, &book, &model, random.below(1024));
+    every_goal(comparison, &plant, &book, &model, random.below(1024));
     let other = plants::tiny(random);
     let (_, book) = comparison.make(&other.bytes(), other.every_move(), book_length(&other));
     look_up(comparison, &plant, &book, &model, random);
@@ -218,7 +224,7 @@ fn turned(model: &Model) -> Model {
     Model { labels, arrows, ..model.clone() }
 }
 
-/// A book with rows that nobody made, and that is accepted all the same.
+/// A book with rows that nobody made, and that is accepted all the same. Some rows serve all goals, and some many.
 fn invent_book(model: &Model, random: &mut Random) -> Vec<u8> {
     let mask = many_moves(model, random);
     let actions: Vec<u16> = (0..32).filter(|action| mask >> action & 1 != 0).collect();
@@ -229,11 +235,13 @@ fn invent_book(model: &Model, random: &mut Random) -> Vec<u8> {
     for _ in &model.labels {
         let lost = actions.is_empty() || random.once_in(often);
         kept += u16::from(!lost);
+        let served = [1, 2, 16, 256][random.below(4)];
         for _ in 0..model.goals {
             if lost {
                 rows.extend([u16::MAX; 2]);
             } else {
-                rows.extend([random.below(waits) as u16, actions[random.below(actions.len())]]);
+                let wait = if random.once_in(served) { 0 } else { random.below(waits) };
+                rows.extend([wait as u16, actions[random.below(actions.len())]]);
             }
         }
     }
@@ -263,13 +271,13 @@ pub fn withdrawals_from_invented(comparison: &mut Comparison, model: &Model, ran
 }
 
 /// The plant made with all moves in service, and then one more withdrawn and previewed each time, from the highest
-/// down; and the good moves in each of these books.
+/// down; and consults and good moves in each of these books.
 pub fn each_move_in_turn(comparison: &mut Comparison, model: &Model) {
     let plant = model.bytes();
     let lengths = [book_length(model), list_length(model)];
     let (_, mut book) = comparison.make(&plant, model.every_move(), lengths[0]);
     for action in (0..model.moves).rev() {
-        every_set(comparison, &plant, &book, model, action.into());
+        every_goal(comparison, &plant, &book, model, action.into());
         book = withdraw_and_preview(comparison, &plant, &book, 1 << action, lengths).1;
         comparison.made_afresh(&plant, (1 << action) - 1, &book);
     }
@@ -305,7 +313,7 @@ fn damaged_plant(comparison: &mut Comparison, random: &mut Random) {
         let mask = or_too_high(few_moves(&model, random), random);
         let lengths = [any_length(book.len(), random), list_length(&model)];
         withdraw_and_preview(comparison, &plant, &book, mask, lengths);
-        any_set(comparison, &plant, &book, &model, random);
+        any_goal(comparison, &plant, &book, &model, random);
     }
 }
 
@@ -388,7 +396,9 @@ fn single_bytes(comparison: &mut Comparison) {
             plant[at] = value;
             comparison.make(&plant, 7, 64);
             withdraw_and_preview(comparison, &plant, &book, 4, [64, 16]);
-            every_set(comparison, &plant, &book, &plants::strip(), 0);
+            for (state, goal) in places(&plants::strip(), 0) {
+                comparison.moves(&plant, &book, state, goal);
+            }
         }
     }
     for at in 0..book.len() {
@@ -397,9 +407,9 @@ fn single_bytes(comparison: &mut Comparison) {
             book[at] = value;
             withdraw_and_preview(comparison, &plant, &book, 4, [48, 8]);
             for state in 0..5 {
-                comparison.consult(&book, state, state % 3);
                 comparison.row(&book, state);
                 for goal in 0..3 {
+                    comparison.consult(&book, state, goal);
                     comparison.moves(&plant, &book, state, goal);
                 }
             }
@@ -438,10 +448,9 @@ fn every_mask(comparison: &mut Comparison) {
         for withdrawn in 0..16 {
             let (_, rest) = withdraw_and_preview(comparison, &plant, &book, withdrawn, [48, 8]);
             for state in 0..4 {
-                comparison.consult(&rest, state, 0);
                 comparison.row(&rest, state);
             }
-            every_set(comparison, &plant, &rest, &plants::strip(), 0);
+            every_goal(comparison, &plant, &rest, &plants::strip(), 0);
         }
     }
 }

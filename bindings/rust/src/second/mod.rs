@@ -161,9 +161,16 @@ fn consult(book: &[u8], state: u32, goal: u32) -> Result<Advice, Refusal> {
     if !book.is_kept(state as usize) {
         return Ok(Advice { lost: 1, ..Advice::default() });
     }
-    let (wait, action) = book.entry(state as usize, goal as usize);
-    let seek = if wait == 0 { (goal + 1) % book.goals as u32 } else { goal };
-    Ok(Advice { number: 0, lost: 0, action: action.into(), wait: wait.into(), seek })
+    let seek = arrive(&book, state as usize, goal as usize);
+    let (wait, action) = book.entry(state as usize, seek);
+    Ok(Advice { number: 0, lost: 0, action: action.into(), wait: wait.into(), seek: seek as u32 })
+}
+
+/// The goal arrived at in a kept state: from the goal sought on, after the last the first, the first goal that the
+/// state does not serve, that is, whose wait is not 0; the goal sought if it serves them all.
+fn arrive(book: &BookView, state: usize, sought: usize) -> usize {
+    let mut in_turn = (sought..book.goals).chain(0..sought);
+    in_turn.find(|&goal| book.entry(state, goal).0 != 0).unwrap_or(sought)
 }
 
 fn row(book: &[u8], state: u32) -> Result<Part, Refusal> {
@@ -174,7 +181,7 @@ fn row(book: &[u8], state: u32) -> Result<Part, Refusal> {
 }
 
 /// Tries each move in service by itself: it is good if it leads anywhere, and wherever it may lead is kept and, above
-/// wait 0, nearer.
+/// wait 0, nearer to the goal arrived at.
 fn moves(plant: &[u8], book: &[u8], state: u32, goal: u32) -> Result<Mask, Refusal> {
     let plant = Plant::read(plant)?;
     let book = BookView::read(book, Some(&plant))?;
@@ -183,6 +190,7 @@ fn moves(plant: &[u8], book: &[u8], state: u32, goal: u32) -> Result<Mask, Refus
     if !book.is_kept(state) {
         return Ok(Mask::default());
     }
+    let goal = arrive(&book, state, goal);
     let wait = book.entry(state, goal).0;
     let lands_well = |&end: &usize| book.is_kept(end) && (wait == 0 || book.entry(end, goal).0 < wait);
     let is_good = |&action: &u16| {

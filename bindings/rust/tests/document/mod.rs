@@ -1,6 +1,6 @@
 //! What document 01 fixes by hand: the marked examples M1 to M11, and the table of refusals with its edges; and what
-//! requests (i), (ii) and (iv) of document 02 say of the good moves, of drop lists and of previews, worked out by hand.
-//! Run on any planner.
+//! requests (i), (ii), (iv) and (v) of document 02 say of the good moves, of drop lists, of previews and of the goals
+//! that are passed, worked out by hand. Run on any planner.
 
 use planbook::calls::Calls;
 use planbook::plants::{self, bytes_of, Model};
@@ -26,6 +26,10 @@ const M9_ROWS: [u16; 16] =
 /// Rows that keep state 3, too, which P does not allow.
 const NOT_ALLOWED_ROWS: [u16; 16] = [0, 0, 2, 0, /**/ 1, 2, 1, 0, /**/ 1, 0, 0, 0, /**/ 0, 0, 0, 0];
 
+/// Rows in which each state that P allows serves both goals.
+const ALL_SERVED_ROWS: [u16; 16] =
+    [0, 0, 0, 0, /**/ 0, 0, 0, 0, /**/ 0, 0, 0, 0, /**/ LOST, LOST, LOST, LOST];
+
 /// A book of P with these rows.
 fn book_of_p(kept: u16, mask: u16, rows: [u16; 16]) -> Vec<u8> {
     bytes_of([4, 3, 2, kept, mask, 0, 16, 48].iter().chain(&rows))
@@ -36,6 +40,10 @@ fn made(planner: &dyn Calls, plant: &[u16], mask: u32, length: usize) -> Vec<u8>
     let answer = planner.make(&bytes_of(plant), mask, &mut book);
     assert_eq!(answer, Answer { number: 0, length: length as u32, drops: 0 });
     book
+}
+
+fn advice(action: u32, wait: u32, seek: u32) -> Advice {
+    Advice { number: 0, lost: 0, action, wait, seek }
 }
 
 fn check_withdrawal(planner: &dyn Calls, book: &[u8], mask: u32, expected: &[u8], dropped: &[u16]) {
@@ -92,12 +100,16 @@ pub fn marked_examples(planner: &dyn Calls) {
 
     check_withdrawal(planner, &book_of_p(2, 7, M9_ROWS), 0, &book_of_p(0, 7, [LOST; 16]), &[0, 2]); // M9
 
-    let advice = |action, wait, seek| Advice { number: 0, lost: 0, action, wait, seek };
     assert_eq!(planner.consult(&m1, 0, 1), advice(0, 2, 1), "M10");
-    assert_eq!(planner.consult(&m1, 2, 1), advice(0, 0, 0), "M10");
+    assert_eq!(planner.consult(&m1, 2, 1), advice(0, 1, 0), "M10");
+    // The others: state 0 serves goal 0, which is passed, state 1 serves none, and state 2 serves goal 1 alone.
+    assert_eq!(planner.consult(&m1, 0, 0), advice(0, 2, 1));
     assert_eq!(planner.consult(&m1, 1, 0), advice(2, 1, 0));
-    assert_eq!(planner.consult(&m1, 0, 0), advice(0, 0, 1));
-    assert_eq!(planner.consult(&m1, 3, 0), Advice { lost: 1, ..Advice::default() });
+    assert_eq!(planner.consult(&m1, 1, 1), advice(0, 1, 1));
+    assert_eq!(planner.consult(&m1, 2, 0), advice(0, 1, 0));
+    for goal in 0..2 {
+        assert_eq!(planner.consult(&m1, 3, goal), Advice { lost: 1, ..Advice::default() });
+    }
     for state in 0..4 {
         assert_eq!(planner.row(&m1, state), Part { number: 0, start: 16 + 8 * state, length: 8 });
     }
@@ -194,11 +206,12 @@ fn check_sets(planner: &dyn Calls, plant: &[u16], book: &[u8], expected: &[&[u32
 }
 
 /// Every good move, by hand: the moves in service in the book whose arrows all end in states that it keeps and, above
-/// wait 0, with smaller waits.
+/// wait 0, with smaller waits for the goal arrived at.
 pub fn good_moves(planner: &dyn Calls) {
-    // M1. State 0: moves 0 and 1 lead to 1 and 2, whose waits for goal 1 are below 2. State 1: move 2 to goal 0, move 0
-    // to goal 1, move 1 to the lost state 3. State 2: move 0 to goal 0, move 2 comes no nearer; in goal 1 both will do.
-    check_sets(planner, &P, &book_of_p(3, 7, M1_ROWS), &[&[3, 3], &[4, 1], &[1, 5], &[0, 0]]);
+    // M1. State 0 passes goal 0: moves 0 and 1 lead to 1 and 2, whose waits for goal 1 are below 2. State 1: move 2 to
+    // goal 0, move 0 to goal 1, move 1 to the lost state 3. State 2 passes goal 1: move 0 to goal 0, move 2 comes no
+    // nearer.
+    check_sets(planner, &P, &book_of_p(3, 7, M1_ROWS), &[&[3, 3], &[4, 1], &[1, 1], &[0, 0]]);
 
     // M2: move 2 is out of service, and state 1 is then at wait 2 for goal 0, with move 0 to state 2.
     let with = |changes: &[(usize, u16)]| {
@@ -213,12 +226,25 @@ pub fn good_moves(planner: &dyn Calls) {
     // M9's book, which nobody made: state 1 is lost, so state 0 has no good move though it is kept; state 2 has one.
     check_sets(planner, &P, &book_of_p(2, 7, M9_ROWS), &[&[0, 0], &[0, 0], &[1, 1], &[0, 0]]);
 
-    // The row's wait counts and not the label: state 0 is in goal 0 and at wait 1 here, state 1 is not and at wait 0.
-    check_sets(planner, &P, &book_of_p(3, 7, with(&[(0, 1)])), &[&[0, 3], &[0, 1], &[0, 5], &[0, 0]]);
-    check_sets(planner, &P, &book_of_p(3, 7, with(&[(4, 0)])), &[&[3, 3], &[5, 1], &[5, 5], &[0, 0]]);
+    // The row's wait counts and not the label. State 0 is in goal 0, but at wait 1 here, as are states 1 and 2: nowhere
+    // is a way to goal 0, also not in state 2 when goal 1 is passed.
+    check_sets(planner, &P, &book_of_p(3, 7, with(&[(0, 1)])), &[&[0, 3], &[0, 1], &[0, 0], &[0, 0]]);
+    // State 1 is not in goal 0, but at wait 0 here: it passes goal 0, and state 2 comes nearer by both its moves.
+    check_sets(planner, &P, &book_of_p(3, 7, with(&[(4, 0)])), &[&[3, 3], &[1, 1], &[5, 5], &[0, 0]]);
 
-    // A move may end in a state that the book keeps though the plant does not allow it; state 3 itself has no arrow.
-    check_sets(planner, &P, &book_of_p(4, 7, NOT_ALLOWED_ROWS), &[&[3, 3], &[6, 3], &[1, 5], &[0, 0]]);
+    // State 2 serves both goals, so that the one sought stays: both its moves will do, though move 2 leads away from
+    // either goal. State 1 comes to goal 0 by move 0, too.
+    check_sets(planner, &P, &book_of_p(3, 7, with(&[(8, 0)])), &[&[3, 3], &[5, 1], &[5, 5], &[0, 0]]);
+    // Every kept state serves both: a move will do if it stays among kept states. Move 1 of state 1 leads to state 3.
+    check_sets(planner, &P, &book_of_p(3, 7, ALL_SERVED_ROWS), &[&[3, 3], &[5, 5], &[5, 5], &[0, 0]]);
+    // The same without state 1, to which both moves of state 0 may lead, and move 2 of state 2.
+    let mut without = ALL_SERVED_ROWS;
+    without[4..8].fill(LOST);
+    check_sets(planner, &P, &book_of_p(2, 7, without), &[&[0, 0], &[0, 0], &[1, 1], &[0, 0]]);
+
+    // A move may end in a state that the book keeps though the plant does not allow it; state 3 itself serves both
+    // goals and has no arrow.
+    check_sets(planner, &P, &book_of_p(4, 7, NOT_ALLOWED_ROWS), &[&[3, 3], &[6, 3], &[1, 1], &[0, 0]]);
 
     // M8's plant, with goal {1}: a move that may stay in state 0 comes no nearer, whatever else it may do.
     let may_stay = [2, 1, 1, 3, 16, 20, 38, 0, 1, 3, 0, 0, 0, 0, 0, 1, 1, 0, 1];
@@ -232,6 +258,102 @@ pub fn good_moves(planner: &dyn Calls) {
     let highest = [1, 32, 1, 1, 16, 18, 24, 0, 3, 0, 31, 0];
     let all_in_service = bytes_of(&[1, 32, 1, 1, 0xffff, 0xffff, 16, 20, 0, 0]);
     check_sets(planner, &highest, &all_in_service, &[&[1 << 31]]);
+}
+
+/// A kept state's row: wait and move for each goal in turn.
+type Row<'a> = &'a [[u16; 2]];
+
+/// A plant in which the good moves show the goal arrived at, and a book with these rows, which nobody made, with all 32
+/// moves in service. After the rows come for each goal a state that serves it alone, at wait 1,023 for the others, and
+/// at the end a lost state. Move i leads to the state that serves goal i, move N to the lost one, and move N + 1 stays.
+/// No state is in a goal: what is served is told by the rows.
+fn signposts(goals: u16, rows: &[Row]) -> (Vec<u8>, Vec<u8>) {
+    let (first, states) = (rows.len() as u16, rows.len() as u16 + goals + 1);
+    let leads = |state| move |action: u16| [state, action, if action <= goals { first + action } else { state }];
+    let arrows = (0..first).flat_map(|state| (0..goals + 2).map(leads(state))).collect();
+    let plant = Model { moves: 32, goals, labels: vec![1; states.into()], arrows }.bytes();
+
+    let serves = |served| (0..goals).flat_map(move |goal| [if goal == served { 0 } else { 1023 }, 31]);
+    let header = [states, 32, goals, states - 1, u16::MAX, u16::MAX, 16, 16 + 4 * states * goals];
+    let numbers = header.into_iter().chain(rows.iter().flat_map(|row| row.iter().flatten().copied()));
+    let numbers = numbers.chain((0..goals).flat_map(serves)).chain(vec![LOST; 2 * usize::from(goals)]);
+    (plant, bytes_of(&numbers.collect::<Vec<u16>>()))
+}
+
+/// Rows of a book by [`signposts`], and what consult answers in each for every goal sought in turn: move, wait and
+/// seek. At a wait from 1 to 1,022 the move with the number of the goal arrived at is the only good one; where all
+/// goals are served, every move will do but the one to the lost state.
+fn check_arrivals(planner: &dyn Calls, goals: u16, rows: &[(Row, Vec<[u32; 3]>)]) {
+    let (plant, book) = signposts(goals, &rows.iter().map(|&(row, _)| row).collect::<Vec<Row>>());
+    for (state, (row, answers)) in (0..).zip(rows) {
+        assert_eq!(answers.len(), row.len(), "an answer for each goal");
+        for (goal, &[action, wait, seek]) in (0..).zip(answers) {
+            let mask = if wait == 0 { (1 << goals) - 1 + (2 << goals) } else { 1 << seek };
+            let found = (planner.consult(&book, state, goal), planner.moves(&plant, &book, state, goal));
+            let expected = (advice(action, wait, seek), Mask { number: 0, mask });
+            assert_eq!(found, expected, "{row:?}, goal {goal} of {goals}");
+        }
+    }
+}
+
+/// Consult and the good moves where goals are passed, by hand: every served goal, that is, every goal at wait 0, from
+/// the one sought on, after the last the first, until one that is not served. If all are served, the one sought stays.
+pub fn arrivals(planner: &dyn Calls) {
+    // One goal: it is always the one sought, served or not.
+    check_arrivals(planner, 1, &[(&[[4, 2]], vec![[2, 4, 0]]), (&[[0, 3]], vec![[3, 0, 0]])]);
+
+    check_arrivals(
+        planner,
+        2,
+        &[
+            (&[[3, 1], [2, 4]], vec![[1, 3, 0], [4, 2, 1]]), // none is served: nothing is passed
+            (&[[0, 1], [2, 4]], vec![[4, 2, 1], [4, 2, 1]]), // 0 is passed
+            (&[[3, 1], [0, 4]], vec![[1, 3, 0], [1, 3, 0]]), // 1 is passed, round the end
+            (&[[0, 1], [0, 4]], vec![[1, 0, 0], [4, 0, 1]]), // all are served: each stays
+        ],
+    );
+
+    check_arrivals(
+        planner,
+        3,
+        &[
+            (&[[5, 7], [6, 8], [1, 9]], vec![[7, 5, 0], [8, 6, 1], [9, 1, 2]]), // none is served
+            (&[[0, 7], [4, 8], [2, 9]], vec![[8, 4, 1], [8, 4, 1], [9, 2, 2]]), // from 0 to 1
+            (&[[3, 7], [0, 8], [1, 9]], vec![[7, 3, 0], [9, 1, 2], [9, 1, 2]]), // from 1 to 2
+            (&[[8, 7], [1, 8], [0, 9]], vec![[7, 8, 0], [8, 1, 1], [7, 8, 0]]), // from 2 round the end to 0
+            (&[[0, 7], [0, 8], [9, 9]], vec![[9, 9, 2], [9, 9, 2], [9, 9, 2]]), // from 0 over 1 to 2
+            (&[[1022, 7], [0, 8], [0, 9]], vec![[7, 1022, 0], [7, 1022, 0], [7, 1022, 0]]), // from 1 over 2 to 0
+            (&[[0, 7], [6, 8], [0, 9]], vec![[8, 6, 1], [8, 6, 1], [8, 6, 1]]), // from 2 over 0 to 1
+            (&[[0, 7], [0, 8], [0, 9]], vec![[7, 0, 0], [8, 0, 1], [9, 0, 2]]), // all are served
+        ],
+    );
+
+    eight_goals(planner);
+}
+
+/// Eight goals, goal i with move 10 + i.
+fn eight_goals(planner: &dyn Calls) {
+    let row = |waits: [u16; 8]| -> Vec<[u16; 2]> { waits.into_iter().zip(10..).map(<[u16; 2]>::from).collect() };
+    let none = row([8, 7, 6, 5, 4, 3, 2, 1]);
+    let all = row([0; 8]);
+    // 2 and 5 are not served: 3 and 4 are passed on the way to 5, and 6, 7, 0 and 1 on the way to 2.
+    let two = row([0, 0, 9, 0, 0, 6, 0, 0]);
+    let [to_2, to_5] = [[12, 9, 2], [15, 6, 5]];
+    // One alone is not served, at wait 20: every other is passed, seven of them if the next one is sought.
+    let but = |left: usize| {
+        let mut waits = [0; 8];
+        waits[left] = 20;
+        row(waits)
+    };
+    let all_but: Vec<Vec<[u16; 2]>> = (0..8).map(but).collect();
+
+    let mut rows: Vec<(Row, Vec<[u32; 3]>)> = vec![
+        (&none, (0..8).map(|goal| [10 + goal, 8 - goal, goal]).collect()),
+        (&all, (0..8).map(|goal| [10 + goal, 0, goal]).collect()),
+        (&two, vec![to_2, to_2, to_2, to_5, to_5, to_5, to_2, to_2]),
+    ];
+    rows.extend((0..8).zip(&all_but).map(|(left, row)| (&row[..], vec![[10 + left, 20, left]; 8])));
+    check_arrivals(planner, 8, &rows);
 }
 
 /// The good moves in the longest plant and book, by hand: the last state has 7 moves with 1,023 arrows each and one

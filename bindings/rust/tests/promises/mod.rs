@@ -1,10 +1,12 @@
-//! What requests (i), (ii) and (iv) of document 02 promise of the books that make or withdraw wrote for a plant: which
-//! the good moves are, that any pick from them serves, what a drop list says of the books before and after, and that
-//! previews come true. Run on any planner; nothing is compared with another.
+//! What requests (i), (ii), (iv) and (v) of document 02 promise of the books that make or withdraw wrote for a plant:
+//! which goal is arrived at and which the good moves are, that following the book meets all goals, by its own moves or
+//! by any pick from the good ones, what a drop list says of the books before and after, and that previews come true.
+//! Run on any planner; nothing is compared with another.
 
 use planbook::calls::Calls;
 use planbook::plants::{self, Model, Random, FAMILIES};
 use planbook::second::format::{in_mask, number, BookView, Plant};
+use planbook::sys::Advice;
 
 /// Every move of a mask.
 fn moves_of(mask: u32) -> Vec<u16> {
@@ -136,12 +138,34 @@ fn with_first(model: &Model, mask: u32, first: u16) -> (Model, u32) {
     (Model { arrows, ..model.clone() }, mask)
 }
 
-/// A lost state has no good move. A kept state has some, and the listed one is the lowest of them. A move is good
-/// exactly when it is the one listed as soon as the moves are numbered with it in the first place: kept states and
-/// waits do not hang on the numbers.
+/// The goal arrived at, told from the labels alone: goals are passed as long as the state is in them, and after all of
+/// them comes the one sought again.
+fn arrived_at(plant: &Plant, state: usize, sought: usize) -> usize {
+    let mut goal = sought;
+    for _ in 0..plant.goals {
+        if plant.in_goal(state, goal) {
+            goal = (goal + 1) % plant.goals;
+        }
+    }
+    goal
+}
+
+/// What was seen of sets of good moves.
+#[derive(Default)]
+struct Sets {
+    /// How many are of no move, of one, and of more.
+    sizes: [u64; 3],
+    /// How many are for another goal than the one sought.
+    passed: u64,
+    /// How many are of a state that serves all of several goals.
+    all_served: u64,
+}
+
+/// A lost state has no good move. A kept state has some, for the goal arrived at; consult gives that goal, and the move
+/// listed for it, which is the lowest of them. A move is good exactly when it is the one listed as soon as the moves
+/// are numbered with it in the first place: kept states and waits do not hang on the numbers.
 pub fn sets_are_those_of_the_rule(planner: &dyn Calls) {
-    // How many sets there are of no move, of one, and of more.
-    let mut sizes = [0; 3];
+    let mut seen = Sets::default();
     for seed in 0..1_500 {
         let random = &mut Random::new(seed);
         let (model, book) = any_book(planner, random);
@@ -154,30 +178,51 @@ pub fn sets_are_those_of_the_rule(planner: &dyn Calls) {
         let books: Vec<BookView> = books.iter().map(|book| read(book)).collect();
         let step = rows.states.div_ceil(24);
         for state in (random.below(step)..rows.states).step_by(step) {
-            for goal in 0..rows.goals {
-                let set = planner.moves(&model.bytes(), &book, state as u32, goal as u32);
-                let good = moves_of(set.mask);
-                let listed = rows.is_kept(state).then(|| rows.entry(state, goal).1);
-                let expected: Vec<u16> = (0..)
-                    .zip(&books)
-                    .filter(|(_, book)| book.entry(state, goal).1 == 0)
-                    .map(|(action, _)| action)
-                    .collect();
-                let input = || format!("state {state}, goal {goal}, plant and book of seed {seed}");
-                assert_eq!(
-                    (set.number, good.first()),
-                    (0, listed.as_ref()),
-                    "the listed move is the lowest, {}",
-                    input()
-                );
-                assert_eq!(good, expected, "each is listed when it comes first, {}", input());
-                sizes[good.len().min(2)] += 1;
+            for sought in 0..rows.goals {
+                let input = || format!("state {state}, goal {sought}, plant and book of seed {seed}");
+                check_set(planner, &model.bytes(), &book, &books, [state, sought], &input, &mut seen);
             }
         }
     }
-    let [none, one, more] = sizes;
-    println!("{}: {none} sets of lost states, {one} of one move, {more} of more", planner.name());
-    assert!(none > 20_000 && one > 5_000 && more > 10_000);
+    let Sets { sizes: [none, one, more], passed, all_served } = seen;
+    println!(
+        "{}: {none} sets of lost states, {one} of one move, {more} of more; {passed} after goals passed, {all_served} \
+         of states that serve all of several goals",
+        planner.name()
+    );
+    assert!(none > 20_000 && one > 5_000 && more > 10_000 && passed > 4_000 && all_served > 4_000);
+}
+
+/// The good moves and consult for a state and the goal sought, from the book and from those in which each move in turn
+/// comes first.
+fn check_set(
+    planner: &dyn Calls,
+    plant: &[u8],
+    book: &[u8],
+    books: &[BookView],
+    [state, sought]: [usize; 2],
+    input: &dyn Fn() -> String,
+    seen: &mut Sets,
+) {
+    let set = planner.moves(plant, book, state as u32, sought as u32);
+    let advice = planner.consult(book, state as u32, sought as u32);
+    let (plant, rows, good) = (Plant::read(plant).expect("a plant"), read(book), moves_of(set.mask));
+    let goal = arrived_at(&plant, state, sought);
+    let (wait, listed) = rows.entry(state, goal);
+    let expected = match rows.is_kept(state) {
+        true => Advice { number: 0, lost: 0, action: listed.into(), wait: wait.into(), seek: goal as u32 },
+        false => Advice { lost: 1, ..Advice::default() },
+    };
+    assert_eq!(advice, expected, "consult gives the goal arrived at, {}", input());
+    let lowest = rows.is_kept(state).then_some(&listed);
+    assert_eq!((set.number, good.first()), (0, lowest), "the listed move is the lowest, {}", input());
+    let firsts = (0..).zip(books).filter(|(_, book)| book.entry(state, goal).1 == 0);
+    let expected: Vec<u16> = firsts.map(|(action, _)| action).collect();
+    assert_eq!(good, expected, "each is listed when it comes first, {}", input());
+
+    seen.sizes[good.len().min(2)] += 1;
+    seen.passed += u64::from(!good.is_empty() && goal != sought);
+    seen.all_served += u64::from(wait == 0 && rows.goals > 1);
 }
 
 /// How far a walk goes.
@@ -186,43 +231,51 @@ const STEPS: usize = 3_000;
 /// What was seen on walks.
 #[derive(Default)]
 struct Seen {
-    walks: u64,
+    /// Walks by consult's own moves, and by picks from the good ones.
+    walks: [u64; 2],
     /// Moves made that are not the ones listed.
     unlisted: u64,
-    /// Times that a goal was met that had not been met when it became the one sought.
+    /// Times that a goal was met that had not been met when it became the one to seek.
     reached: u64,
     /// The most moves that this took.
     most: usize,
+    /// Goals that were passed without having been the one to seek before.
+    passed: u64,
+    /// Times that all of several goals were met in one state.
+    all_met: u64,
 }
 
-/// Walks by any pick from the good moves, made anew at each step, in plants of all families and any size. The arrow
-/// that is followed is any one or, in half of the walks, one that leads farthest from the goal sought.
-pub fn picks_serve(planner: &dyn Calls) {
+/// Following the book from any kept state and first goal, in plants of all families and any size: in half of the walks
+/// by consult's own moves, and in the others by any pick from the good ones, made anew at each step. The arrow that is
+/// followed is any one or, in half of the walks, one that leads farthest from the goal to seek.
+pub fn following_meets_the_goals(planner: &dyn Calls) {
     let mut seen = Seen::default();
     for family in FAMILIES {
         for states in [5, 40, 300, 1024] {
             let model = family.build(states, 1);
             let made = make(planner, &model, model.every_move());
             let less = withdraw(planner, &model, &made, model.highest_move());
-            for book in [made, less] {
+            for (book, own) in [made, less].iter().flat_map(|book| [(book, true), (book, false)]) {
                 let what = format!("{} with {states} states", family.name());
-                Walk { planner, plant: &model.bytes(), book: &book, what }.go(&mut Random::new(1), &mut seen);
+                Walk { planner, plant: &model.bytes(), book, own, what }.go(&mut Random::new(1), &mut seen);
             }
         }
     }
-    for seed in 0..400 {
+    for seed in 0..600 {
         let random = &mut Random::new(seed);
         let (model, book) = any_book(planner, random);
         let what = format!("plant and book of seed {seed}");
-        Walk { planner, plant: &model.bytes(), book: &book, what }.go(random, &mut seen);
+        Walk { planner, plant: &model.bytes(), book: &book, own: seed % 2 == 0, what }.go(random, &mut seen);
     }
-    let Seen { walks, unlisted, reached, most } = seen;
+    let Seen { walks: [own, picks], unlisted, reached, most, passed, all_met } = seen;
     println!(
-        "{}: {walks} walks of {STEPS} steps, {unlisted} by moves that are not listed; goals were reached {reached} \
-         times, after {most} moves at the most",
+        "{}: {own} walks of {STEPS} steps by consult's moves and {picks} by picks, {unlisted} steps by moves that are \
+         not listed; goals were reached {reached} times, after {most} moves at the most, {passed} more were passed, \
+         and all of several were met in one state {all_met} times",
         planner.name()
     );
-    assert!(walks > 100 && unlisted > 50_000 && reached > 50_000 && most > 400);
+    assert!(own > 100 && picks > 100 && unlisted > 50_000);
+    assert!(reached > 50_000 && most > 400 && passed > 200_000 && all_met > 50_000);
 }
 
 /// A walk by a book.
@@ -230,6 +283,8 @@ struct Walk<'a> {
     planner: &'a dyn Calls,
     plant: &'a [u8],
     book: &'a [u8],
+    /// Whether consult's own move is made, and not any pick from the good ones.
+    own: bool,
     /// What it is a walk in, for messages.
     what: String,
 }
@@ -243,46 +298,79 @@ impl Walk<'_> {
         let Some(most) = waits.max() else {
             return;
         };
-        // Each goal has its turn, and takes at most its wait and the move from there on.
-        let turns = rows.goals * (1 + usize::from(most));
+        // Each goal has its turn, which takes at most its wait; before that there may be a move from where all are met.
+        let turns = 1 + rows.goals * usize::from(most);
+        let mut watch = Watch { plant: &plant, turns, met: vec![0; rows.goals], span: None };
         let farthest = random.once_in(2);
         let (mut state, mut sought) = (kept[random.below(kept.len())], random.below(rows.goals));
-        // Since when the goal is sought, and by when it is to be met; when each goal was met last.
-        let mut span = None;
-        let mut met = vec![0; rows.goals];
         for step in 0..STEPS {
             let here = || format!("step {step}, state {state}, goal {sought}, {}", self.what);
             let advice = self.planner.consult(self.book, state as u32, sought as u32);
             assert_eq!((advice.number, advice.lost), (0, 0), "the state is kept: {}", here());
-            let (begun, end) = *span.get_or_insert((step, step + advice.wait as usize));
-            assert!(step <= end, "the goal sought is met within the wait that was shown: {}", here());
-            for goal in (0..rows.goals).filter(|&goal| plant.in_goal(state, goal)) {
-                met[goal] = step;
-            }
-            assert!(met.iter().all(|&last| step - last <= turns), "each goal is met again and again: {}", here());
-            if advice.wait == 0 {
-                assert_eq!(met[sought], step, "at wait 0 the goal is met: {}", here());
-                seen.reached += u64::from(begun != step);
-                seen.most = seen.most.max(step - begun);
-                span = None;
-            }
-            let (action, ends) = self.pick(&plant, state, sought, random);
-            assert!(in_mask(rows.mask, action) && !ends.is_empty(), "a good move is available: {}", here());
+            watch.step(step, state, sought, &advice, &here, seen);
+            let action = if self.own { advice.action as u16 } else { self.pick(state, sought, random) };
+            let ends = plant.ends(state, action);
+            assert!(in_mask(rows.mask, action) && !ends.is_empty(), "the move is available: {}", here());
             seen.unlisted += u64::from(u32::from(action) != advice.action);
             sought = advice.seek as usize;
             let far = ends.iter().copied().max_by_key(|&end| rows.entry(end, sought).0);
             state = far.filter(|_| farthest).unwrap_or(ends[random.below(ends.len())]);
         }
-        seen.walks += 1;
+        seen.walks[usize::from(!self.own)] += 1;
     }
 
-    /// One of the good moves, at random, and where it may lead.
-    fn pick(&self, plant: &Plant, state: usize, goal: usize, random: &mut Random) -> (u16, Vec<usize>) {
+    /// One of the good moves, at random.
+    fn pick(&self, state: usize, goal: usize, random: &mut Random) -> u16 {
         let set = self.planner.moves(self.plant, self.book, state as u32, goal as u32);
         assert_eq!(set.number, 0);
         let good = moves_of(set.mask);
         assert_ne!(good, [], "a kept state has a good move: state {state}, goal {goal}, {}", self.what);
-        let action = good[random.below(good.len())];
-        (action, plant.ends(state, action))
+        good[random.below(good.len())]
+    }
+}
+
+/// What is watched on a walk.
+struct Watch<'a> {
+    plant: &'a Plant,
+    /// The most moves from one time that a goal is met to the next.
+    turns: usize,
+    /// When each goal was met last.
+    met: Vec<usize>,
+    /// When the goal sought became the one to seek, and by when it is to be met; nothing at first, and after a state in
+    /// which all were met.
+    span: Option<(usize, usize)>,
+}
+
+impl Watch<'_> {
+    fn step(
+        &mut self,
+        step: usize,
+        state: usize,
+        sought: usize,
+        advice: &Advice,
+        here: &dyn Fn() -> String,
+        seen: &mut Seen,
+    ) {
+        let (goals, wait, seek) = (self.plant.goals, advice.wait as usize, advice.seek as usize);
+        let met_here = |goal| self.plant.in_goal(state, goal);
+        for goal in (0..goals).filter(|&goal| met_here(goal)) {
+            self.met[goal] = step;
+        }
+        assert!(self.met.iter().all(|&last| step - last <= self.turns), "each is met again and again: {}", here());
+        assert_eq!(met_here(seek), wait == 0, "the goal to seek is met here at wait 0 alone: {}", here());
+        assert!(wait != 0 || seek == sought, "the goal sought stays if all are met: {}", here());
+        let passed = if wait == 0 { goals } else { (seek + goals - sought) % goals };
+        let mut in_turn = (0..passed).map(|turn| (sought + turn) % goals);
+        assert!(in_turn.all(met_here), "goals are met where they are passed: {}", here());
+        if let Some((begun, end)) = self.span {
+            assert!(step + usize::from(passed == 0) <= end, "it is met within the wait that was shown: {}", here());
+            seen.reached += u64::from(passed != 0);
+            seen.most = seen.most.max(step - begun);
+        }
+        if passed != 0 || self.span.is_none() {
+            seen.passed += passed.saturating_sub(usize::from(self.span.is_some())) as u64;
+            self.span = (wait != 0).then_some((step, step + wait));
+        }
+        seen.all_met += u64::from(wait == 0 && goals > 1);
     }
 }

@@ -27,7 +27,7 @@ cast-t9 c = search needs
 
 returns : tie.Need-returns
 returns c =
-    let says = c .before .before .before .before .before .consult-book .ensures in
+    let says = c .before .before .before .before .before .consult-book .ensures .0 in
     record {
       number = says .number;
       lost = c .before .before .before .one .ensures ∙ ap (λ (t : Bool). pick t 1 0) (says .lost);

@@ -19,7 +19,7 @@ returns : tie.Need-returns
 returns c =
     let a = c .before .before .before .args in
     part-refused (now (a .book)) (a .state) (c .before .consult-book .result .number)
-    (c .before .consult-book .ensures .number) (c .if1 .taken)
+    (c .before .consult-book .ensures .0 .number) (c .if1 .taken)
 
 entry-place-requires : tie.Need-entry-place-requires
 entry-place-requires c κs = search needs
@@ -31,7 +31,7 @@ number-requires c κs = search needs
 given : (c : tie.After-number) →
     let a = c .before .before .before .before .before .args in
     consultFault (now (a .book)) (a .state) 0 ≡ 0
-given c = sym (c .before .before .before .consult-book .ensures .number) ∙ c .before .before .if1 .left
+given c = sym (c .before .before .before .consult-book .ensures .0 .number) ∙ c .before .before .if1 .left
 
 cast-t9 : tie.Need-cast-t9
 cast-t9 c =
