@@ -8,8 +8,8 @@ use Prim.Native.Nat.{ℕ, zero, suc, _<_}
 use lib.ListN.{length}
 use borrow.Author.Tests.{eq-eqb, lt-leb}
 use Rattle.statements.specs.Sets.{bit}
-use Rattle.statements.specs.Plants.{plantOf, plantFault, ends}
-use Rattle.statements.specs.Books.{waitAt, moveAt, isLost, bookFault, arrive, goodMoves}
+use Rattle.statements.specs.Plants.{plantOf, plantFault, ends, available}
+use Rattle.statements.specs.Books.{bookMask, waitAt, moveAt, isLost, bookFault, arrive, goodMoves}
 use Rattle.statements.specs.Calls.{alike, consultFault, movesFault}
 use Rattle.statements.specs.Strategies.{Picks, Serves}
 use Rattle.statements.specs.Demands.{Right}
@@ -91,14 +91,27 @@ module _ (s : List ℕ) {b : List ℕ} {mask : ℕ} {within : ℕ → Type 0} (p
       fine-at : consultFault b (states n) (goals n) ≡ 0
       fine-at = consult-accepted (states n) (goals n) (at .state) (at .goal)
 
+      -- the move answered is good, and so available
+      listed-at :
+          let i = arrive b (states n) (goals n) in
+          bit (advice n .action) (goodMoves (plantOf s) b (states n) i) ≡ true
+      listed-at =
+          let a = arrived (states n) (goals n) (at .state) (at .goal) in
+          rw (action-is (walk .consulted n) fine-at (at .kept))
+          (right .listed (states n) (arrive b (states n) (goals n)) (at .state) a (at .kept) .0)
+
+      available-at : available (plantOf s) (bookMask b) (states n) (advice n .action) ≡ true
+      available-at =
+          let a = arrived (states n) (goals n) (at .state) (at .goal) in
+          let i = arrive b (states n) (goals n) in
+          rw (right .is-book .mask-is)
+          (right .set (states n) i (advice n .action) (at .state) a .0 listed-at .1 .is-available)
+
       -- the move taken is good
       good-at : bit (moves n) (goodMoves (plantOf s) b (states n) (arrive b (states n) (goals n))) ≡ true
       good-at =
           elim (walk .taken n) [
-            | inl e ↦
-                let a = arrived (states n) (goals n) (at .state) (at .goal) in
-                rw (e, action-is (walk .consulted n) fine-at (at .kept))
-                (right .listed (states n) (arrive b (states n) (goals n)) (at .state) a (at .kept) .0)
+            | inl e ↦ rw e listed-at
             | inr m ↦ rw (mask-is (m .1) (moves-accepted (states n) (goals n) (at .state) (at .goal))) at (m .2)
           ]
 
@@ -146,6 +159,7 @@ module _ (s : List ℕ) {b : List ℕ} {mask : ℕ} {within : ℕ → Type 0} (p
             answered = λ n.
                 let fine = fine-at n (always n) in
                 (walk .consulted n .number ∙ fine, not-lost (walk .consulted n) fine (always n .kept));
+            goes-on = λ n. available-at n (always n);
             masked = λ n m says.
                 let at = always n in
                 let fine = moves-accepted (states n) (goals n) (at .state) (at .goal) in

@@ -10,8 +10,8 @@ use Rattle.books.specs.declared.Advice.{Advice}
 use Rattle.books.specs.declared.Answer.{Answer}
 use Rattle.books.specs.declared.Mask.{Mask}
 use Rattle.statements.specs.Sets.{bit, lowest, isIn}
-use Rattle.statements.specs.Plants.{plantOf, inGoal, ends}
-use Rattle.statements.specs.Books.{isLost, goalAfter, passes}
+use Rattle.statements.specs.Plants.{plantOf, inGoal, ends, available}
+use Rattle.statements.specs.Books.{bookMask, isLost, goalAfter, passes}
 use Rattle.books.specs.Says.{ConsultSays, MovesSays, WithdrawSays}
 use Rattle.books.specs.Traces.{Begun, bookAfter}
 
@@ -29,6 +29,8 @@ pub record Walk (s b : List ℕ) (states goals moves : ℕ → ℕ) (advice : �
 pub record Walked (s b : List ℕ) (states goals : ℕ → ℕ) (advice : ℕ → Advice) : Type 0 where
   -- consult is never refused, and no state is lost
   pub answered : (n : ℕ) → (advice n .number ≡ 0) × (advice n .lost ≡ false)
+  -- the move that it answers is available, so that a walk can always go on
+  pub goes-on : (n : ℕ) → available (plantOf s) (bookMask b) (states n) (advice n .action) ≡ true
   -- nor is the call for all good moves refused, and the move that consult answers is the lowest of its mask
   pub masked : (n : ℕ) (m : Mask) → MovesSays s b (states n) (goals n) m →
       (m .number ≡ 0) × (advice n .action ≡ lowest (plantOf s .moves) (m .mask))
