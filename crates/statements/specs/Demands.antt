@@ -90,16 +90,19 @@ pub record Right (p : Plant) (mask : ℕ) (within : ℕ → Type 0) (b : List �
 -- request (v), of any book, any state and any goal sought of the book's: every goal that the state serves is passed,
 -- from the sought one onward in turn, until one that it does not serve; if it serves all of them, the sought one stays
 pub record Arriving : Type 0 where
-  -- the goal arrived at is a goal
-  pub goal : (b : List ℕ) (x i : ℕ) → i < bookGoals b → arrive b x i < bookGoals b
-  -- the goals passed are served
-  pub passed : (b : List ℕ) (x i k : ℕ) → k < passes b x i → waitAt b x (goalAfter (bookGoals b) i k) ≡ 0
-  -- if some goal is not served, neither is the one arrived at
-  pub until : (b : List ℕ) (x i j : ℕ) → i < bookGoals b → j < bookGoals b → 0 < waitAt b x j →
-      0 < waitAt b x (arrive b x i)
-  -- if all are, the sought one stays
+  -- if k goals from the sought one on are served, and the next is not, that is the goal arrived at
+  pub until : (b : List ℕ) (x i k : ℕ) → i < bookGoals b → k < bookGoals b →
+      ((j : ℕ) → j < k → waitAt b x (goalAfter (bookGoals b) i j) ≡ 0) →
+      0 < waitAt b x (goalAfter (bookGoals b) i k) → arrive b x i ≡ goalAfter (bookGoals b) i k
+  -- if all are served, it is the sought one
   pub stays : (b : List ℕ) (x i : ℕ) → i < bookGoals b → ((j : ℕ) → j < bookGoals b → waitAt b x j ≡ 0) →
       arrive b x i ≡ i
+  -- it is a goal, and those passed are served
+  pub goal : (b : List ℕ) (x i : ℕ) → i < bookGoals b → arrive b x i < bookGoals b
+  pub passed : (b : List ℕ) (x i k : ℕ) → k < passes b x i → waitAt b x (goalAfter (bookGoals b) i k) ≡ 0
+  -- it is served only if all goals are
+  pub all-served : (b : List ℕ) (x i j : ℕ) → i < bookGoals b → j < bookGoals b → waitAt b x (arrive b x i) ≡ 0 →
+      waitAt b x j ≡ 0
   -- to arrive again from the goal arrived at changes nothing
   pub idempotent : (b : List ℕ) (x i : ℕ) → i < bookGoals b → arrive b x (arrive b x i) ≡ arrive b x i
 

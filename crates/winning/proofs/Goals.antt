@@ -1,7 +1,7 @@
--- The goal arrived at: the goals passed are served, it is served only if all are, and the sought one then stays; to
--- arrive again changes nothing; and passing a goal comes nearer to every other that is not served, in turn.
+-- The goal arrived at: it is the first that is not served, from the sought one on in turn, or the sought one if all are
+-- served; to arrive again changes nothing; and passing a goal comes nearer to every other that is not served.
 -- Assumes nothing.
-use mathlib.Core.Path.{_≡_}
+use mathlib.Core.Path.{_≡_, ap}
 use mathlib.Core.Logic.{_⊎_, inl, inr}
 use mathlib.Core.Bool.{Bool, true, not}
 use mathlib.Core.List.{List}
@@ -136,12 +136,29 @@ module _ (b : List ℕ) (x i : ℕ) where
         let here : goalAfter (bookGoals b) i 0 ≡ i = omega (arith, after-on (bookGoals b) i 0 (omega arith)) in
         arrive-none (omega (arith, passes-least 0 (omega arith) (rw here w)))
 
-    -- if some goal is not served, neither is the one arrived at
-    arrive-until : (j : ℕ) → j < bookGoals b → 0 < waitAt b x j → 0 < waitAt b x (arrive b x i)
-    arrive-until j hj w =
+    -- the first goal that is not served is the one arrived at
+    arrive-until :
+        (k : ℕ) → k < bookGoals b → ((j : ℕ) → j < k → waitAt b x (goalAfter (bookGoals b) i j) ≡ 0) →
+        0 < waitAt b x (goalAfter (bookGoals b) i k) → arrive b x i ≡ goalAfter (bookGoals b) i k
+    unfolding arrive
+    arrive-until k hk before w =
+        let most = passes-least k hk w in
+        elim (decLt (passes b x i) k) [
+          | yes l ↦ absurd (omega (arith, passes-stops (omega arith), before (passes b x i) l))
+          | no l ↦ ap (goalAfter (bookGoals b) i) (omega arith)
+        ]
+
+    -- if the goal arrived at is served, so is every goal
+    arrive-all-served : (j : ℕ) → j < bookGoals b → waitAt b x (arrive b x i) ≡ 0 → waitAt b x j ≡ 0
+    arrive-all-served j hj e =
         let n = bookGoals b in
-        let far = ahead-below n i j hi hj in
-        passes-stops (omega (arith, passes-least (ahead n i j) far (rw (after-ahead n i j hi hj) w)))
+        elim (decLt 0 (waitAt b x j)) [
+          | yes l ↦
+              let far = ahead-below n i j hi hj in
+              let least = passes-least (ahead n i j) far (rw (after-ahead n i j hi hj) l) in
+              absurd (omega (arith, passes-stops (omega arith)))
+          | no l ↦ omega arith
+        ]
 
     -- a goal arrived at that is served is the sought one, all being passed
     arrive-served : waitAt b x (arrive b x i) ≡ 0 → arrive b x i ≡ i
@@ -189,9 +206,10 @@ arrive-again b x i hi =
 pub arriving : Arriving
 arriving =
     record {
+      until = λ b x i k hi. arrive-until b x i hi k;
+      stays = arrive-stays;
       goal = arrive-below;
       passed = passes-served;
-      until = λ b x i j hi. arrive-until b x i hi j;
-      stays = arrive-stays;
+      all-served = λ b x i j hi. arrive-all-served b x i hi j;
       idempotent = arrive-again;
     }

@@ -10,8 +10,9 @@
 //! After a family's sizes stand the growth of each call from the fewest states to the most, and how many times as long
 //! as withdraw a preview takes with the most.
 //!
-//! At the end stand consult and moves for the longest plant: moves in a state with one arrow, and in the busiest state
-//! there can be; and how many times as long as consult each solver takes for these.
+//! At the end stand consult and moves for the longest plant: consult in a state that serves no goal, and in one that
+//! serves all of them (`passing`); moves in that state, which has one arrow, and in the busiest state there can be; and
+//! how many times as long as the first consult each solver takes for these.
 
 use std::hint::black_box;
 
@@ -22,7 +23,7 @@ use planbook::second::{Fast, Plain};
 
 const SIZES: [u16; 5] = [64, 128, 256, 512, 1024];
 const CALLS: [&str; 5] = ["make", "withdraw", "preview", "remake", "consult"];
-const LOOKUPS: [&str; 3] = ["consult", "moves", "busiest"];
+const LOOKUPS: [&str; 4] = ["consult", "passing", "moves", "busiest"];
 const SEED: u64 = 1;
 
 /// Runs of one call go on until they took so long in all, in nanoseconds, but are at least three.
@@ -93,15 +94,15 @@ fn measure(planner: &dyn Calls, model: &Model) -> Figures<{ CALLS.len() }> {
     }
 }
 
-/// Consult, and moves in the first state and in the last, for the last goal.
+/// Consult in the last state and in the first, and moves in the first and in the last, for the last goal.
 fn measure_lookups(planner: &dyn Calls, model: &Model) -> Figures<{ LOOKUPS.len() }> {
     let plant = model.bytes();
     let (last, goal) = (model.labels.len() as u32 - 1, u32::from(model.goals) - 1);
     let mut book = vec![0; 16 + 4 * model.labels.len() * usize::from(model.goals)];
     accepted(planner.make(&plant, model.every_move(), &mut book).number);
-    let consult = least(|| accepted(black_box(planner.consult(&book, last, goal)).number));
+    let consult = |state| least(|| accepted(black_box(planner.consult(&book, state, goal)).number));
     let moves = |state| least(|| accepted(black_box(planner.moves(&plant, &book, state, goal)).number));
-    Figures { times: [consult, moves(0), moves(last)], kept: [number(&book, 6); 3] }
+    Figures { times: [consult(last), consult(0), moves(0), moves(last)], kept: [number(&book, 6); 4] }
 }
 
 fn accepted(number: u32) {
