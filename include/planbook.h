@@ -61,7 +61,7 @@ typedef struct {
     uint32_t number; /* 0, or why it was refused */
     uint32_t lost;   /* 1 when the state is lost; the fields below are then 0 */
     uint32_t move;   /* the move to make for the goal arrived at, below U */
-    uint32_t wait;   /* the most moves it can take to that goal; 0 when the state serves all goals */
+    uint32_t wait;   /* the most moves it can take to that goal; 0 exactly when the state serves all goals */
     uint32_t seek;   /* the goal arrived at: hand it in as the goal sought in the state that follows */
 } planbook_advice;
 
