@@ -1,7 +1,7 @@
 #!/usr/bin/env bash
-# The must-fail edits, after `rt ci`: each was refused because a fact no longer holds. The prover also refuses an edit
-# that names what its file does not have, does not parse or no longer fits the proof, and that would show nothing. Reads
-# the first error of each log, or that the search for a proof of its own was in vain.
+# The must-fail edits, after `rt ci`: none was refused just because it names what its file, or the proof, does not have,
+# or does not parse. The prover refuses such an edit too, and that shows nothing. Reads the first error of each log, or
+# that the search for a proof was in vain. Whether an edit keeps the code's shape is left to whoever writes it.
 set -euo pipefail
 cd "$(dirname "$0")/.."
 shopt -s nullglob
@@ -13,9 +13,9 @@ for log in target/must-fail/*/*/.log; do
     *"not in scope"* | *"can be named from here"* | *"has no field"*) ;;
     *": error: \`"* | *"does not close"*) continue ;;
     esac
-    echo "edits: not refused for a fact: ${first:0:400}"
+    echo "edits: refused for a missing name or for its form: ${first:0:400}"
     unfit=$((unfit + 1))
 done
 [ "$count" -gt 0 ] || { echo "edits: there are no logs; run rt ci first"; exit 1; }
 [ "$unfit" -eq 0 ] || exit 1
-echo "edits: $count are refused, each for a fact"
+echo "edits: $count are refused, none for a missing name"

@@ -7,9 +7,10 @@ use native.Mathlib.Omega.{arith}
 use lib.Dec.{eqb}
 use lib.ListN.{length, take, drop, length-drop}
 use lib.Seq.{length-take-le}
-use borrow.Author.Tests.{eq-eqb, ne-eqb, leb-false}
+use borrow.Author.Tests.{eq-eqb, ne-eqb, leb-false, lt-leb}
 use Rattle.statements.specs.Plants.{when, plantOf, plantFault}
-use Rattle.statements.specs.Books.{bookLong, bookStates, bookGoals, waitAt, moveAt, isLost, bookHeadOk, arrive}
+use Rattle.statements.specs.Books.{bookLong, bookStates, bookGoals, waitAt, moveAt, isLost, bookHeadOk, bookFault}
+use Rattle.statements.specs.Books.{arrive}
 use Rattle.statements.specs.Calls.{alike, consultFault, movesFault, rowPart}
 use Rattle.books.specs.Says.{accepted, keeps, ConsultSays, rowStart}
 use Rattle.sets.proofs.Tests.{or-neither}
@@ -40,7 +41,12 @@ module _ (b : List ℕ) (x i : ℕ) where
         goal = leb-false _ _ (t .1);
       }
 
-  -- and so may the call for all good moves
+  -- and a call is accepted that hands in so much
+  pub is-fine : bookFault b ≡ 0 → x < bookStates b → i < bookGoals b → consultFault b x i ≡ 0
+  unfolding consultFault
+  is-fine h hx hi = rw (h, lt-leb _ _ hx, lt-leb _ _ hi)
+
+  -- the call for all good moves may rely on as much
   pub moves-fine : (s : List ℕ) → movesFault s b x i ≡ 0 → Fine
   unfolding movesFault
   moves-fine s e =

@@ -6,7 +6,7 @@ use mathlib.Core.Bool.{true, false}
 use mathlib.Core.List.{List}
 use Prim.Native.Nat.{ℕ, zero, suc, _<_}
 use lib.ListN.{length}
-use borrow.Author.Tests.{eq-eqb, lt-leb}
+use borrow.Author.Tests.{eq-eqb}
 use Rattle.statements.specs.Sets.{bit}
 use Rattle.statements.specs.Plants.{plantOf, plantFault, ends, available}
 use Rattle.statements.specs.Books.{bookMask, waitAt, moveAt, isLost, bookFault, arrive, goodMoves}
@@ -59,9 +59,8 @@ module _ (s : List ℕ) {b : List ℕ} {mask : ℕ} {within : ℕ → Type 0} (p
   -- the calls are accepted for every state and goal
   module _ (x i : ℕ) (hx : x < plantOf s .states) (hi : i < plantOf s .goals) where
     consult-accepted : consultFault b x i ≡ 0
-    unfolding consultFault
     consult-accepted =
-        rw (right .accepted, right .is-book .states, right .is-book .goals, lt-leb _ _ hx, lt-leb _ _ hi)
+        consulted.is-fine b x i (right .accepted) (rw (right .is-book .states) hx) (rw (right .is-book .goals) hi)
 
     moves-accepted : movesFault s b x i ≡ 0
     unfolding movesFault alike
@@ -189,7 +188,7 @@ module _ (b : List ℕ) (x i : ℕ) (fine : consultFault b x i ≡ 0) where
   fault-again =
       let f = consulted.fine b x i fine in
       let book = first-iff (bookFault b) _ .0 fine .0 in
-      rw (book, lt-leb _ _ (f .state), lt-leb _ _ (arrive-below b x i (f .goal)), lt-leb _ _ (f .goal))
+      consulted.is-fine b x (arrive b x i) book (f .state) (arrive-below b x i (f .goal)) ∙ sym fine
 
   -- and answer the same
   consult-again : {r : Advice} → ConsultSays b x (arrive b x i) r → ConsultSays b x i r
