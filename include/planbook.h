@@ -5,18 +5,19 @@
  * thread: every call works on the memory it is lent and on less than 256 KiB of stack. Any bytes may be handed in.
  *
  * Plants and books are byte strings; docs/FORMATS.md describes them. Every call returns a `number`: 0 when it was
- * accepted, otherwise the lowest that applies, and then every other field is 0 and no byte was written:
+ * accepted, otherwise the first of these that applies, and then every other field is 0 and no byte was written:
  *
  *   1  the plant is under 16 bytes, a count is out of range (S 1 to 1,024, U 1 to 32, N 1 to 8, E 0 to 8,192), an
  *      offset, the length or the last header number is wrong, or plant_len differs from the length
  *   2  a label has a bit above bit N
  *   3  an arrow's state or move is out of range, or the arrows do not strictly ascend
  *   4  the book is under 16 bytes, its S, U or N is out of range, an offset or the length is wrong, its mask has a bit
- *      at U or above, or book_len differs from the length; in withdraw, preview and moves also S, U or N unlike the
- *      plant's
+ *      at U or above, or book_len differs from the length; in every call that takes a plant too also S, U or N unlike
+ *      the plant's
  *   5  a row is neither wholly lost nor with every wait at most 1,023 and every move in the book's mask, or K is not
  *      the number of rows that are not lost
- *   6  the mask given has a bit at U or above
+ *   9  the list of masks has a length that is not a multiple of 4 or is above 64 bytes
+ *   6  the mask given, or any mask of the list, has a bit at U or above
  *   7  the book buffer is under 16 + 4SN bytes, or the drop buffer under 2S; preview has the drop buffer alone
  *   8  the state is not below S, or the goal not below N
  *
@@ -33,12 +34,13 @@
 extern "C" {
 #endif
 
-/* The longest plant and the longest book, and what a drop buffer needs at most. */
+/* The longest plant and the longest book, what a drop buffer needs at most, and the longest list of masks. */
 #define PLANBOOK_PLANT_MAX 51216u
 #define PLANBOOK_BOOK_MAX 32784u
 #define PLANBOOK_DROPS_MAX 2048u
+#define PLANBOOK_MASKS_MAX 64u
 
-/* What make and withdraw answer. */
+/* What make, withdraw and withdraw_list answer. */
 typedef struct {
     uint32_t number; /* 0, or why it was refused */
     uint32_t length; /* bytes of the book written, from the buffer's first byte on */
@@ -90,6 +92,16 @@ planbook_answer planbook_withdraw(const uint8_t *plant, size_t plant_len, const 
                                   uint32_t mask, uint8_t *out, size_t out_len, uint8_t *drops, size_t drops_len);
 
 /*
+ * Withdraws the lines of a lock-out sheet: a list of up to 16 masks, four bytes each, the low byte first. The book
+ * written to out is that of the single withdrawals in turn, and of one withdrawal of all moves that they name. The
+ * states kept in the book handed in and lost in that one are written to drops by rising number. An empty list acts as
+ * one mask of 0. A bad mask anywhere refuses the whole list. Refusals 1 to 5, then 9, 6 and 7.
+ */
+planbook_answer planbook_withdraw_list(const uint8_t *plant, size_t plant_len, const uint8_t *book, size_t book_len,
+                                       const uint8_t *masks, size_t masks_len, uint8_t *out, size_t out_len,
+                                       uint8_t *drops, size_t drops_len);
+
+/*
  * What a lock-out would cost, before it is done: withdraws nothing and writes no book. The number dropped, the states
  * written to drops and K afterwards are those that withdraw would give for the same plant, book and mask, and drops and
  * kept add up to K of the book handed in. It is refused as withdraw is, but asks for no book buffer. Refusals 1 to 7.
@@ -99,8 +111,8 @@ planbook_cost planbook_preview(const uint8_t *plant, size_t plant_len, const uin
 
 /*
  * What to do in a state when a goal is sought. Before a move is chosen every goal that the state serves is passed, from
- * the sought one onward in turn. To ask again for the goal answered gives the same answer. In a book that make or
- * withdraw wrote for a plant, make the move answered and seek the goal answered in the state that follows, from any
+ * the sought one onward in turn. To ask again for the goal answered gives the same answer. In a book that these
+ * calls wrote for a plant, make the move answered and seek the goal answered in the state that follows, from any
  * kept state and any first goal on: that stays in kept states and meets every goal again and again, a goal that is
  * passed there and then, and the goal answered within the wait answered. Refusals 4, 5, 8.
  */
@@ -112,7 +124,7 @@ planbook_part planbook_row(const uint8_t *book, size_t book_len, uint32_t state)
 /*
  * Every good move in a state when a goal is sought, for the goal that consult arrives at: the moves of the book's mask
  * that have an arrow there and all of whose arrows end in states that the book keeps and, where the state's wait for
- * that goal is above 0, with a smaller wait for it. A lost state has none. In a book that make or withdraw wrote for
+ * that goal is above 0, with a smaller wait for it. A lost state has none. In a book that these calls wrote for
  * this plant a kept state has at least one, and the lowest is the move that consult gives; any pick, made anew at each
  * step while the goals are sought as consult says, keeps what is said of consult's own move. In any other book a kept
  * state may have none, and the move that consult gives need not be good. Refusals 1 to 5, 8.

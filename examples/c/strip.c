@@ -1,7 +1,7 @@
 /*
  * Strip plant P of the request: makes its book, withdraws move 2, asks in each state what to do for goal 0 and which
- * moves are good, and follows the book for some moves; then looks at what it would cost to withdraw move 0, withdraws
- * it and prints the drop list.
+ * moves are good, and follows the book for some moves; then looks at what it would cost to withdraw move 0, and
+ * withdraws a list, move 1 and then move 0, and prints the drop list.
  */
 #include <stdio.h>
 
@@ -50,6 +50,19 @@ static int refused(const char *call, uint32_t number) {
 static int withdraw(const char *which, const uint8_t *book, uint32_t mask, uint8_t *out) {
     planbook_answer answer = planbook_withdraw(plant, sizeof plant, book, BOOK, mask, out, BOOK, drops, sizeof drops);
     if (refused("withdraw", answer.number)) {
+        return 1;
+    }
+    printf("withdrew %s: %u bytes, ", which, (unsigned)answer.length);
+    print_drops(answer.drops);
+    return 0;
+}
+
+/* Writes the book without the moves of two masks, in turn, and says which states that drops in all. */
+static int withdraw_both(const char *which, const uint8_t *book, uint8_t first, uint8_t second, uint8_t *out) {
+    const uint8_t masks[8] = {first, 0, 0, 0, second, 0, 0, 0}; /* four bytes each, the low byte first */
+    planbook_answer answer = planbook_withdraw_list(plant, sizeof plant, book, BOOK, masks, sizeof masks, out, BOOK,
+                                                    drops, sizeof drops);
+    if (refused("withdraw_list", answer.number)) {
         return 1;
     }
     printf("withdrew %s: %u bytes, ", which, (unsigned)answer.length);
@@ -117,7 +130,7 @@ int main(void) {
     }
     print_advice(patched);
     follow(patched, 4);
-    if (preview("move 0 too", patched, 1) || withdraw("move 0 too", patched, 1, again)) {
+    if (preview("move 0 too", patched, 1) || withdraw_both("move 1 and then move 0", patched, 2, 1, again)) {
         return 1;
     }
     return planbook_consult(again, BOOK, 4, 0).number == 8 ? 0 : 1;

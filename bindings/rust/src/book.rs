@@ -1,9 +1,9 @@
-//! The safe wrapper: the six calls over slices, and a book that owns its bytes.
+//! The safe wrapper: the seven calls over slices, and a book that owns its bytes.
 
 use std::sync::Arc;
 
-use crate::calls::{Calls, Linked};
-use crate::sys::{LONGEST_BOOK, LONGEST_LIST};
+use crate::calls::{mask_bytes, Calls, Linked};
+use crate::sys::{Answer, LONGEST_BOOK, LONGEST_LIST};
 use crate::Refusal;
 
 /// Both places of an entry of a lost state.
@@ -29,7 +29,7 @@ pub enum Advice {
     },
 }
 
-/// What an accepted withdrawal wrote.
+/// What an accepted withdrawal, or list of withdrawals, wrote.
 #[derive(Clone, Copy, Debug, PartialEq, Eq)]
 pub struct Withdrawn {
     /// How many bytes of the book buffer are the new book.
@@ -72,6 +72,11 @@ fn accepted(number: u32) -> Result<(), Refusal> {
     }
 }
 
+fn written(answer: Answer) -> Result<Withdrawn, Refusal> {
+    accepted(answer.number)?;
+    Ok(Withdrawn { length: answer.length as usize, drops: answer.drops as usize })
+}
+
 /// Writes the book of `plant` with the moves of `mask` in service to the start of `book`, and answers its length. A
 /// refused call writes nothing.
 ///
@@ -106,9 +111,33 @@ pub fn withdraw_into(
     out: &mut [u8],
     drops: &mut [u8],
 ) -> Result<Withdrawn, Refusal> {
-    let answer = Linked.withdraw(plant, book, mask, out, drops);
-    accepted(answer.number)?;
-    Ok(Withdrawn { length: answer.length as usize, drops: answer.drops as usize })
+    written(Linked.withdraw(plant, book, mask, out, drops))
+}
+
+/// Withdraws the moves of each of the masks in turn, each time from the book of the one before: writes the last book to
+/// the start of `out`, and the states kept in `book` and lost in the last one to the start of `drops`, just as
+/// [`withdraw_into`] does. The masks are 16 at most, and none at all act as one mask of 0. Bytes past what is written
+/// stay. A refused call writes nothing, and one mask that names a move which the plant does not have refuses them all.
+///
+/// ```
+/// let plant = planbook::plants::strip().bytes();
+/// let (mut book, mut out, mut drops) = ([0; 48], [0; 48], [9; 8]);
+/// planbook::make_into(&plant, 0b111, &mut book)?;
+/// let written = planbook::withdraw_list_into(&plant, &book, &[0b100, 0b001], &mut out, &mut drops)?;
+/// assert_eq!((written.length, written.drops), (48, 3));
+/// assert_eq!(drops, [0, 0, 1, 0, 2, 0, 9, 9]); // states 0, 1 and 2, and what stood past them
+/// let refused = planbook::withdraw_list_into(&plant, &book, &[0; 17], &mut out, &mut drops);
+/// assert_eq!(refused, Err(planbook::Refusal::MaskList));
+/// # Ok::<(), planbook::Refusal>(())
+/// ```
+pub fn withdraw_list_into(
+    plant: &[u8],
+    book: &[u8],
+    masks: &[u32],
+    out: &mut [u8],
+    drops: &mut [u8],
+) -> Result<Withdrawn, Refusal> {
+    written(Linked.withdraw_list(plant, book, &mask_bytes(masks), out, drops))
 }
 
 /// What it would cost to withdraw the moves of `mask` from `book`: writes the states that this would drop to the start
@@ -250,9 +279,38 @@ impl Book {
     /// The book without the moves of `mask`, and the states kept in this book and lost in that one, by rising number.
     /// Naming a move that is already out of service has no effect.
     pub fn withdraw(&self, mask: u32) -> Result<(Book, Vec<u16>), Refusal> {
+        self.next(|out, list| withdraw_into(&self.plant, &self.bytes, mask, out, list))
+    }
+
+    /// The book without the moves of the masks, withdrawn in turn, each time from the book of the one before; and the
+    /// states kept in this book and lost in that one, by rising number. There are at most 16 masks, and none at all act
+    /// as one mask of 0.
+    ///
+    /// ```
+    /// use planbook::Book;
+    ///
+    /// let plant = planbook::plants::strip().bytes();
+    /// let book = Book::make(&plant, 0b111)?;
+    /// let (rest, dropped) = book.withdraw_list(&[0b010, 0b100])?;
+    /// assert_eq!((rest.mask(), dropped), (0b001, vec![])); // move 0 alone will do
+    /// assert_eq!(rest, book.withdraw(0b110)?.0); // as if both had been withdrawn at once
+    ///
+    /// let (_, dropped) = book.withdraw_list(&[0b100, 0b001])?;
+    /// assert_eq!(dropped, [0, 1, 2]);
+    /// # Ok::<(), planbook::Refusal>(())
+    /// ```
+    pub fn withdraw_list(&self, masks: &[u32]) -> Result<(Book, Vec<u16>), Refusal> {
+        self.next(|out, list| withdraw_list_into(&self.plant, &self.bytes, masks, out, list))
+    }
+
+    /// The book that a withdrawal from this one writes, and the states that it lists.
+    fn next(
+        &self,
+        withdraw: impl FnOnce(&mut [u8], &mut [u8]) -> Result<Withdrawn, Refusal>,
+    ) -> Result<(Book, Vec<u16>), Refusal> {
         let mut bytes = vec![0; self.bytes.len()];
         let mut list = [0; LONGEST_LIST];
-        let written = withdraw_into(&self.plant, &self.bytes, mask, &mut bytes, &mut list)?;
+        let written = withdraw(&mut bytes, &mut list)?;
         bytes.truncate(written.length);
         Ok((Book { plant: self.plant.clone(), bytes }, listed(&list, written.drops)))
     }

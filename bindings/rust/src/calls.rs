@@ -1,10 +1,10 @@
-//! The six calls over slices, with the C interface's answers: one trait that the proved library and each second
+//! The seven calls over slices, with the C interface's answers: one trait that the proved library and each second
 //! solver implement, so that tests and benchmarks treat them alike.
 
 use crate::sys::{Advice, Answer, Cost, Mask, Part};
 
-/// A planner: make, withdraw and row as document 01 has them, and moves, preview and consult as requests (i), (iv) and
-/// (v) of document 02 do, on raw bytes.
+/// A planner: make, withdraw and row as document 01 has them, and moves, preview, consult and the list of withdrawals
+/// as requests (i), (iv), (v) and (vi) of document 02 do, on raw bytes.
 pub trait Calls {
     /// A short name for tables and messages.
     fn name(&self) -> &'static str;
@@ -15,6 +15,11 @@ pub trait Calls {
     /// Writes the book without the moves of `mask` to the start of `out`, and to the start of `drops` the states kept
     /// in `book` and lost now, as two-byte numbers.
     fn withdraw(&self, plant: &[u8], book: &[u8], mask: u32, out: &mut [u8], drops: &mut [u8]) -> Answer;
+
+    /// Withdraws the moves of each mask of a list in turn, each time from the book of the one before: writes the last
+    /// book to the start of `out`, and to the start of `drops` the states kept in `book` and lost in that one. `masks`
+    /// has four bytes for each, as [`mask_bytes`] lays them out; an empty list acts as one mask of 0.
+    fn withdraw_list(&self, plant: &[u8], book: &[u8], masks: &[u8], out: &mut [u8], drops: &mut [u8]) -> Answer;
 
     /// What it would cost to withdraw the moves of `mask`: writes to the start of `drops` what withdraw would, and no
     /// book.
@@ -30,6 +35,11 @@ pub trait Calls {
     /// Every good move: all that meet the rule for the entry of a state and the goal arrived at, as a mask, read on the
     /// book's own rows and mask.
     fn moves(&self, plant: &[u8], book: &[u8], state: u32, goal: u32) -> Mask;
+}
+
+/// The bytes of a list of masks: four for each, the low one first.
+pub fn mask_bytes(masks: &[u32]) -> Vec<u8> {
+    masks.iter().flat_map(|mask| mask.to_le_bytes()).collect()
 }
 
 /// The proved library.
@@ -57,6 +67,24 @@ impl Calls for Linked {
                 book.as_ptr(),
                 book.len(),
                 mask,
+                out.as_mut_ptr(),
+                out.len(),
+                drops.as_mut_ptr(),
+                drops.len(),
+            )
+        }
+    }
+
+    fn withdraw_list(&self, plant: &[u8], book: &[u8], masks: &[u8], out: &mut [u8], drops: &mut [u8]) -> Answer {
+        // SAFETY: each pointer and length is a slice's own, and `out` and `drops` are each borrowed alone.
+        unsafe {
+            crate::sys::planbook_withdraw_list(
+                plant.as_ptr(),
+                plant.len(),
+                book.as_ptr(),
+                book.len(),
+                masks.as_ptr(),
+                masks.len(),
                 out.as_mut_ptr(),
                 out.len(),
                 drops.as_mut_ptr(),

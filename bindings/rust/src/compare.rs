@@ -7,8 +7,8 @@
 use std::fmt::Debug;
 
 use crate::calls::Calls;
-use crate::second::format::number;
-use crate::sys::{Advice, Answer, Cost, Mask, Part, LONGEST_BOOK};
+use crate::second::format::{number, read_masks, together, LOST};
+use crate::sys::{Advice, Answer, Cost, Mask, Part, LONGEST_BOOK, LONGEST_LIST};
 
 pub mod rounds;
 
@@ -33,6 +33,12 @@ pub struct Comparison<'a> {
     passes: u64,
     /// Consults in which there is more than one goal, and all are served.
     all_served: u64,
+    /// Lists of withdrawals that are accepted.
+    lists: u64,
+    /// Such lists in which a single withdrawal after the first drops states.
+    late: u64,
+    /// Such lists in which two single withdrawals or more drop states.
+    repeated: u64,
 }
 
 /// A buffer with watched bytes on each side, filled with a pattern.
@@ -53,6 +59,13 @@ impl Buffer {
     }
 }
 
+/// What a withdrawal answers and leaves in its buffers.
+struct Outcome {
+    answer: Answer,
+    book: Buffer,
+    list: Buffer,
+}
+
 impl<'a> Comparison<'a> {
     /// Compares two planners.
     pub fn new(ours: &'a dyn Calls, second: &'a dyn Calls) -> Comparison<'a> {
@@ -67,6 +80,9 @@ impl<'a> Comparison<'a> {
             choices: 0,
             passes: 0,
             all_served: 0,
+            lists: 0,
+            late: 0,
+            repeated: 0,
         }
     }
 
@@ -80,15 +96,22 @@ impl<'a> Comparison<'a> {
         [self.passes, self.all_served]
     }
 
+    /// In how many accepted lists of withdrawals one after the first dropped states, and in how many two or more did.
+    pub fn lists(&self) -> [u64; 2] {
+        [self.late, self.repeated]
+    }
+
     /// What was compared so far, in words.
     pub fn summary(&self) -> String {
         let [ours, second] = [self.ours, self.second].map(|planner| planner.name());
         let Comparison { calls, refused, mixed, partial, previewed, choices, passes, all_served, .. } = self;
+        let Comparison { lists, late, repeated, .. } = self;
         format!(
             "{ours} and {second} do not differ in {calls} calls, of which {refused} are refused, {mixed} write a book \
              with kept and lost states, {partial} drop some states and keep others, {previewed} preview that, \
-             {choices} find more than one good move, {passes} consults pass goals, and {all_served} find all of \
-             several goals served"
+             {choices} find more than one good move, {passes} consults pass goals, {all_served} find all of several \
+             goals served, and {lists} are accepted lists of withdrawals, in {late} of which one after the first drops \
+             states and in {repeated} two or more do"
         )
     }
 
@@ -101,38 +124,104 @@ impl<'a> Comparison<'a> {
         let answers = [self.ours.make(plant, mask, ours.lent()), self.second.make(plant, mask, second.lent())];
         self.same_answer(answers, &input);
         self.same_bytes("plant", plant, &before, &input);
-        self.written(books, answers[0], &input)
+        self.same_buffers("book buffer", books.each_ref(), answers[0].number, &input);
+        let [ours, _] = books;
+        self.written(answers[0], ours)
     }
 
     /// Compares a withdrawal with buffers of these lengths, and hands back the answer and the book, empty if refused.
     pub fn withdraw(&mut self, plant: &[u8], book: &[u8], mask: u32, lengths: [usize; 2]) -> (Answer, Vec<u8>) {
         let input = || format!("withdraw, mask {mask:#x}, buffers {lengths:?}, {}", both(plant, book));
-        let before = [plant.to_vec(), book.to_vec()];
-        let mut books = [(); 2].map(|()| Buffer::new(lengths[0], self.calls));
-        let mut lists = [(); 2].map(|()| Buffer::new(lengths[1], self.calls));
-        let ([ours, second], [our_list, second_list]) = (&mut books, &mut lists);
-        let answers = [
-            self.ours.withdraw(plant, book, mask, ours.lent(), our_list.lent()),
-            self.second.withdraw(plant, book, mask, second.lent(), second_list.lent()),
-        ];
-        self.same_answer(answers, &input);
+        let before = [plant, book].map(<[u8]>::to_vec);
+        let [ours, second] = [self.ours, self.second]
+            .map(|planner| self.outcome(lengths, |out, list| planner.withdraw(plant, book, mask, out, list)));
+        self.same_outcome(&ours, &second, &input);
         self.only_read([plant, book], before, &input);
-        self.same_buffers("drop buffer", &lists, answers[0].number, &input);
-        self.written(books, answers[0], &input)
+        self.written(ours.answer, ours.book)
+    }
+
+    /// Compares a list of withdrawals with buffers of these lengths, and hands back the answer and the book, empty if
+    /// refused. It must be what the single withdrawals in turn come to, and what one withdrawal of all the moves does.
+    pub fn withdraw_list(&mut self, plant: &[u8], book: &[u8], masks: &[u8], lengths: [usize; 2]) -> (Answer, Vec<u8>) {
+        let input = || format!("withdraw list, masks {}, buffers {lengths:?}, {}", hex(masks), both(plant, book));
+        let before = [plant, book, masks].map(<[u8]>::to_vec);
+        let [ours, second] = [self.ours, self.second]
+            .map(|planner| self.outcome(lengths, |out, list| planner.withdraw_list(plant, book, masks, out, list)));
+        self.same_outcome(&ours, &second, &input);
+        self.only_read([plant, book, masks], before, &input);
+        let alone = |what| format!("{} alone, with {what} second: {}", self.ours.name(), input());
+        let at_once = || alone("its withdrawal of all these moves");
+        let expected = self.at_once(plant, book, masks, lengths);
+        self.same_answer([ours.answer.number, expected.answer.number], &at_once);
+        if let (0, Ok(masks)) = (ours.answer.number, read_masks(masks)) {
+            let in_turn = || alone("its single withdrawals in turn");
+            let drops = self.in_turn(plant, book, &masks, &ours, &in_turn);
+            self.lists += 1;
+            self.late += u64::from(drops[1..].iter().any(|&drops| drops != 0));
+            self.repeated += u64::from(drops.iter().filter(|&&drops| drops != 0).count() > 1);
+        }
+        self.same_outcome(&ours, &expected, &at_once);
+        self.written(ours.answer, ours.book)
+    }
+
+    /// What a list must answer and leave: what the same planner's withdrawal of all its moves does. One whose length is
+    /// wrong is refused with 9, unless the plant or the book is refused.
+    fn at_once(&self, plant: &[u8], book: &[u8], masks: &[u8], lengths: [usize; 2]) -> Outcome {
+        if let Ok(masks) = read_masks(masks) {
+            return self.outcome(lengths, |out, list| self.ours.withdraw(plant, book, together(&masks), out, list));
+        }
+        let (mut out, mut list) = (vec![0; LONGEST_BOOK], vec![0; LONGEST_LIST]);
+        let number = match self.ours.withdraw(plant, book, 0, &mut out, &mut list).number {
+            0 => 9,
+            number => number,
+        };
+        self.outcome(lengths, |_, _| Answer::refused(number))
+    }
+
+    /// Holds an accepted list against the same planner's single withdrawals in turn, each from the book of the one
+    /// before: all are accepted, the book is the last of theirs, and the drop list has the states that the rows of the
+    /// first book keep and those of the last do not, by rising number. Answers how many states each of them drops.
+    fn in_turn(
+        &self,
+        plant: &[u8],
+        book: &[u8],
+        masks: &[u32],
+        listed: &Outcome,
+        input: &dyn Fn() -> String,
+    ) -> Vec<u32> {
+        let mut last = book.to_vec();
+        let mut list = vec![0; LONGEST_LIST];
+        let single = |&mask: &u32| {
+            let before = last.clone();
+            let answer = self.ours.withdraw(plant, &before, mask, &mut last, &mut list);
+            self.same_answer([answer, Answer { number: 0, length: book.len() as u32, ..answer }], input);
+            answer.drops
+        };
+        let drops = masks.iter().map(single).collect();
+        let dropped = (0..number(book, 0)).filter(|&state| is_kept(book, state) && !is_kept(&last, state));
+        let dropped: Vec<u8> = dropped.flat_map(u16::to_le_bytes).collect();
+        let lengths = [&listed.book, &listed.list].map(|buffer| buffer.length);
+        let expected = self.outcome(lengths, |out, list| {
+            out[..last.len()].copy_from_slice(&last);
+            list[..dropped.len()].copy_from_slice(&dropped);
+            Answer { number: 0, length: last.len() as u32, drops: dropped.len() as u32 / 2 }
+        });
+        self.same_outcome(listed, &expected, input);
+        drops
     }
 
     /// Compares a preview with a drop buffer of this length, and hands back the answer. It must be what the withdrawal
     /// gives.
     pub fn preview(&mut self, plant: &[u8], book: &[u8], mask: u32, length: usize) -> Cost {
         let input = || format!("preview, mask {mask:#x}, buffer {length}, {}", both(plant, book));
-        let before = [plant.to_vec(), book.to_vec()];
+        let before = [plant, book].map(<[u8]>::to_vec);
         let mut lists = [(); 2].map(|()| Buffer::new(length, self.calls));
         let [ours, second] = &mut lists;
         let costs =
             [self.ours.preview(plant, book, mask, ours.lent()), self.second.preview(plant, book, mask, second.lent())];
         self.same_answer(costs, &input);
         self.only_read([plant, book], before, &input);
-        self.same_buffers("drop buffer", &lists, costs[0].number, &input);
+        self.same_buffers("drop buffer", lists.each_ref(), costs[0].number, &input);
         let alone = || format!("{} alone, with its withdrawal second: {}", self.ours.name(), input());
         let (withdrawn, list) = self.withdrawn(plant, book, mask, length);
         self.same_answer([costs[0], withdrawn], &alone);
@@ -187,7 +276,7 @@ impl<'a> Comparison<'a> {
     /// says to seek.
     pub fn moves(&mut self, plant: &[u8], book: &[u8], state: u32, goal: u32) -> Mask {
         let input = || format!("moves, state {state}, goal {goal}, {}", both(plant, book));
-        let before = [plant.to_vec(), book.to_vec()];
+        let before = [plant, book].map(<[u8]>::to_vec);
         let sets = [self.ours, self.second].map(|planner| planner.moves(plant, book, state, goal));
         self.same_answer(sets, &input);
         self.only_read([plant, book], before, &input);
@@ -210,12 +299,25 @@ impl<'a> Comparison<'a> {
         self.same_bytes("book", book, &afresh, &input);
     }
 
-    /// Compares the books in two buffers, bytes beside them included, and hands one back.
-    fn written(&mut self, books: [Buffer; 2], answer: Answer, input: &dyn Fn() -> String) -> (Answer, Vec<u8>) {
-        self.same_buffers("book buffer", &books, answer.number, input);
+    /// What a withdrawal answers and leaves in a book buffer and a drop buffer of these lengths.
+    fn outcome(&self, lengths: [usize; 2], withdraw: impl FnOnce(&mut [u8], &mut [u8]) -> Answer) -> Outcome {
+        let [mut book, mut list] = lengths.map(|length| Buffer::new(length, self.calls));
+        let answer = withdraw(book.lent(), list.lent());
+        Outcome { answer, book, list }
+    }
+
+    /// Two withdrawals have the same answer, and the same bytes in their buffers and beside them.
+    fn same_outcome(&self, ours: &Outcome, second: &Outcome, input: &dyn Fn() -> String) {
+        let answers = [ours.answer, second.answer];
+        self.same_answer(answers, input);
+        self.same_buffers("drop buffer", [&ours.list, &second.list], answers[0].number, input);
+        self.same_buffers("book buffer", [&ours.book, &second.book], answers[0].number, input);
+    }
+
+    /// Counts a call that writes a book, and hands back the answer and the book.
+    fn written(&mut self, answer: Answer, mut buffer: Buffer) -> (Answer, Vec<u8>) {
         self.count(answer.number);
-        let [mut ours, _] = books;
-        let book = ours.lent()[..answer.length as usize].to_vec();
+        let book = buffer.lent()[..answer.length as usize].to_vec();
         if answer.number == 0 {
             let (states, kept) = (number(&book, 0).into(), kept_count(&book));
             self.mixed += u64::from(kept != 0 && kept != states);
@@ -224,14 +326,15 @@ impl<'a> Comparison<'a> {
         (answer, book)
     }
 
-    /// The plant and the book, which were lent to read, are as they were.
-    fn only_read(&self, lent: [&[u8]; 2], before: [Vec<u8>; 2], input: &dyn Fn() -> String) {
-        self.same_bytes("plant", lent[0], &before[0], input);
-        self.same_bytes("book", lent[1], &before[1], input);
+    /// The plant, the book and the masks, which were lent to read, are as they were.
+    fn only_read<const N: usize>(&self, lent: [&[u8]; N], before: [Vec<u8>; N], input: &dyn Fn() -> String) {
+        for ((what, lent), before) in ["plant", "book", "masks"].into_iter().zip(lent).zip(before) {
+            self.same_bytes(what, lent, &before, input);
+        }
     }
 
     /// Two buffers have the same bytes, those beside them included, and after a refusal those that they had before.
-    fn same_buffers(&self, what: &str, [ours, second]: &[Buffer; 2], number: u32, input: &dyn Fn() -> String) {
+    fn same_buffers(&self, what: &str, [ours, second]: [&Buffer; 2], number: u32, input: &dyn Fn() -> String) {
         self.same_bytes(what, &ours.bytes, &second.bytes, input);
         if number != 0 {
             let before = Buffer::new(ours.length, self.calls);
@@ -267,6 +370,11 @@ impl<'a> Comparison<'a> {
 /// K of a book.
 fn kept_count(book: &[u8]) -> u32 {
     number(book, 6).into()
+}
+
+/// Whether a state's row is not lost.
+fn is_kept(book: &[u8], state: u16) -> bool {
+    number(book, 16 + 4 * usize::from(state) * usize::from(number(book, 4))) != LOST
 }
 
 /// A book and a plant in hex.

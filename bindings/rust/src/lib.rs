@@ -6,8 +6,8 @@
 //! forces the goal. Both are bytes; their formats are in the repository's docs/FORMATS.md.
 //!
 //! With the feature `linked`, which is on by default, [`Book`] and the functions [`make_into`], [`withdraw_into`],
-//! [`preview_into`], [`consult`], [`row`] and [`good_moves`] call the proved library. They take slices, answer a
-//! [`Result`] with a [`Refusal`], and need no `unsafe` in the caller's code.
+//! [`withdraw_list_into`], [`preview_into`], [`consult`], [`row`] and [`good_moves`] call the proved library. They take
+//! slices, answer a [`Result`] with a [`Refusal`], and need no `unsafe` in the caller's code.
 //!
 #![cfg_attr(feature = "linked", doc = "```")]
 #![cfg_attr(not(feature = "linked"), doc = "```ignore")]
@@ -25,6 +25,10 @@
 //! // A look before a lock-out: to withdraw move 0 would drop all kept states, to withdraw move 2 would drop none.
 //! assert_eq!(book.preview(0b001)?.dropped, [0, 1, 2]);
 //! assert_eq!(book.preview(0b100)?.kept, 3);
+//!
+//! // Two lines of a lock-out sheet at once: move 1 goes out of service, then move 2, and no state is dropped.
+//! let (rest, dropped) = book.withdraw_list(&[0b010, 0b100])?;
+//! assert_eq!((rest.mask(), dropped), (0b001, vec![]));
 //!
 //! // Move 2 goes out of service: the way from state 1 to goal 0 gets longer, and no state is dropped.
 //! let (book, dropped) = book.withdraw(0b100)?;
@@ -52,6 +56,6 @@ pub use refusal::Refusal;
 #[cfg(feature = "linked")]
 mod book;
 #[cfg(feature = "linked")]
-pub use book::{consult, good_moves, make_into, preview_into, row, withdraw_into};
+pub use book::{consult, good_moves, make_into, preview_into, row, withdraw_into, withdraw_list_into};
 #[cfg(feature = "linked")]
 pub use book::{Advice, Book, Cost, Entry, Preview, Withdrawn};

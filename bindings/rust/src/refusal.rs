@@ -2,8 +2,8 @@
 
 use std::fmt;
 
-/// The numbers 1 to 8 that a call may return in the place of a result. A refused call writes nothing. Where several
-/// apply the lowest is returned.
+/// The numbers 1 to 9 that a call may return in the place of a result. A refused call writes nothing. Where several
+/// apply the lowest is returned, but for 9, which comes straight before 6.
 #[derive(Clone, Copy, Debug, PartialEq, Eq, Hash)]
 #[non_exhaustive]
 pub enum Refusal {
@@ -17,18 +17,20 @@ pub enum Refusal {
     BookHeader,
     /// 5: a row of the book is neither lost nor valid, or the count of kept states is not that of the rows.
     BookRow,
-    /// 6: the mask given names a move that the plant does not have.
+    /// 6: the mask given, or one of a list, names a move that the plant does not have.
     Mask,
     /// 7: a buffer is too short.
     Buffer,
     /// 8: the state or the goal asked for is not in the book.
     OutOfBook,
+    /// 9: the list of masks is not whole, or too long.
+    MaskList,
     /// A number that this version of the wrapper does not know.
     Other(u32),
 }
 
 /// The refusals by their number, from 1 on, with what was wrong, where, and what to do.
-const KNOWN: [(Refusal, &str); 8] = [
+const KNOWN: [(Refusal, &str); 9] = [
     (
         Refusal::PlantHeader,
         "the plant's header is not valid or its length is not the one its header says (plant, bytes 0 to 15): lend \
@@ -56,7 +58,8 @@ const KNOWN: [(Refusal, &str); 8] = [
     ),
     (
         Refusal::Mask,
-        "the mask has a bit for a move that the plant does not have (mask, bit U or above): name only moves 0 to U - 1",
+        "a mask has a bit for a move that the plant does not have (mask, or any one of a list, bit U or above): name \
+         only moves 0 to U - 1",
     ),
     (
         Refusal::Buffer,
@@ -66,6 +69,11 @@ const KNOWN: [(Refusal, &str); 8] = [
     (
         Refusal::OutOfBook,
         "the state or the goal is not in the book (state, goal): ask for a state below S and a goal below N",
+    ),
+    (
+        Refusal::MaskList,
+        "the list of masks is not whole, or too long (list of masks, its length): lend exactly 4 bytes for each mask, \
+         and at most 16 masks",
     ),
 ];
 
@@ -86,6 +94,7 @@ impl Refusal {
             Refusal::Mask => 6,
             Refusal::Buffer => 7,
             Refusal::OutOfBook => 8,
+            Refusal::MaskList => 9,
             Refusal::Other(number) => number,
         }
     }
@@ -116,7 +125,7 @@ mod tests {
         for number in 0..20 {
             let refusal = Refusal::from_number(number);
             assert_eq!(refusal.number(), number);
-            assert_eq!(matches!(refusal, Refusal::Other(_)), !(1..=8).contains(&number));
+            assert_eq!(matches!(refusal, Refusal::Other(_)), !(1..=9).contains(&number));
             assert!(refusal.to_string().starts_with(&format!("refused {number}: ")));
         }
     }

@@ -1,5 +1,5 @@
 //! The C interface as it is declared in `include/planbook.h`: the longest buffers, its answers, and with the feature
-//! `linked` its six functions. The functions are unsafe to call; [`crate::make_into`] and its neighbours are the safe
+//! `linked` its seven functions. The functions are unsafe to call; [`crate::make_into`] and its neighbours are the safe
 //! way.
 //!
 //! A refused answer has its number and 0 in every other field, and so has a lost one beside its `lost`.
@@ -10,7 +10,10 @@ pub const LONGEST_BOOK: usize = 16 + 4 * 1024 * 8;
 /// The most bytes of a list of dropped states: 2S for S 1,024 (`PLANBOOK_DROPS_MAX` in C).
 pub const LONGEST_LIST: usize = 2 * 1024;
 
-/// What make and withdraw answer.
+/// The most bytes of a list of masks: 4 for each of 16 (`PLANBOOK_MASKS_MAX` in C).
+pub const LONGEST_MASKS: usize = 4 * 16;
+
+/// What make, withdraw and a list of withdrawals answer.
 #[repr(C)]
 #[derive(Clone, Copy, Debug, Default, PartialEq, Eq)]
 pub struct Answer {
@@ -103,6 +106,24 @@ extern "C" {
         book: *const u8,
         book_len: usize,
         mask: u32,
+        out: *mut u8,
+        out_len: usize,
+        drops: *mut u8,
+        drops_len: usize,
+    ) -> Answer;
+
+    /// Writes the book with the moves of each of the masks withdrawn in turn, and the states dropped by them all.
+    ///
+    /// # Safety
+    /// Each pointer is good for its length, to read (`plant`, `book`, `masks`) or to write (`out`, `drops`), and those
+    /// written do not overlap with any other.
+    pub fn planbook_withdraw_list(
+        plant: *const u8,
+        plant_len: usize,
+        book: *const u8,
+        book_len: usize,
+        masks: *const u8,
+        masks_len: usize,
         out: *mut u8,
         out_len: usize,
         drops: *mut u8,

@@ -22,6 +22,8 @@ fn documents_01_and_02() {
     document::drop_lists(&Linked);
     document::previews(&Linked);
     document::previews_of_the_longest(&Linked);
+    document::lists(&Linked);
+    document::lists_that_drop_with_each_mask(&Linked);
     document::good_moves(&Linked);
     document::good_moves_of_the_longest(&Linked);
     document::arrivals(&Linked);
@@ -36,6 +38,11 @@ fn drop_lists_are_read_from_the_books() {
 #[test]
 fn previews_come_true() {
     promises::previews_come_true(&Linked);
+}
+
+#[test]
+fn lists_come_to_the_withdrawals_in_turn() {
+    promises::lists_come_to_the_withdrawals_in_turn(&Linked);
 }
 
 #[test]
@@ -60,18 +67,21 @@ fn exhaustive_rounds() {
 #[test]
 fn random_rounds() {
     let calls = std::env::var("PLANBOOK_CALLS").map_or(300_000, |word| word.parse().expect("a number of calls"));
-    // In all rounds together, how many consults pass goals, and how many find all of several goals served.
-    let mut arrivals = [0; 2];
+    // In all rounds together, how many consults pass goals, and how many find all of several goals served; and in how
+    // many lists of withdrawals one after the first drops states, and in how many two or more do.
+    let (mut arrivals, mut lists) = ([0; 2], [0; 2]);
     for (name, round) in rounds::RANDOM_ROUNDS {
         let mut comparison = Comparison::new(&Linked, &Fast);
         let rounds = rounds::run(&mut comparison, round, SEED, calls);
         println!("{name}, {rounds} rounds from seed {SEED}: {}", comparison.summary());
         arrivals = std::array::from_fn(|at| arrivals[at] + comparison.arrivals()[at]);
+        lists = std::array::from_fn(|at| lists[at] + comparison.lists()[at]);
     }
     assert!(arrivals.iter().all(|&many| many > calls / 20), "{arrivals:?} arrivals");
+    assert!(lists.iter().all(|&many| many > calls / 100), "{lists:?} lists of withdrawals");
 }
 
-/// All families at their largest: made, and each move withdrawn in turn.
+/// All families at their largest: made, and each move withdrawn in turn, by single calls and by lists.
 #[test]
 fn families() {
     let mut comparison = Comparison::new(&Linked, &Fast);

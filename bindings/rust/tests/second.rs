@@ -5,7 +5,7 @@
 mod document;
 mod promises;
 
-use planbook::calls::Calls;
+use planbook::calls::{mask_bytes, Calls};
 use planbook::compare::{rounds, Comparison};
 use planbook::plants::{self, Random, FAMILIES};
 use planbook::second::format::Plant;
@@ -17,6 +17,7 @@ fn marked_examples() {
         document::marked_examples(planner);
         document::further_examples(planner);
         document::previews(planner);
+        document::lists(planner);
         document::good_moves(planner);
         document::arrivals(planner);
     }
@@ -50,6 +51,7 @@ fn refusals_and_limits() {
     for planner in [&Plain as &dyn Calls, &Fast] {
         document::refusals(planner);
         document::drop_lists(planner);
+        document::lists_that_drop_with_each_mask(planner);
         document::previews_of_the_longest(planner);
         document::good_moves_of_the_longest(planner);
     }
@@ -59,12 +61,13 @@ fn refusals_and_limits() {
 fn promises() {
     promises::drop_lists_are_read_from_the_books(&Fast);
     promises::previews_come_true(&Fast);
+    promises::lists_come_to_the_withdrawals_in_turn(&Fast);
     promises::sets_are_those_of_the_rule(&Fast);
     promises::following_meets_the_goals(&Fast);
 }
 
-/// Tiny plants, with every mask, every withdrawal from what is made, and the preview of move 0: brute force, sweeps and
-/// worklist agree.
+/// Tiny plants, with every mask, every withdrawal from what is made, the preview of move 0, and, from what is made with
+/// all moves, the lists of moves 0 and 1 in both orders: brute force, sweeps and worklist agree.
 #[test]
 fn brute_force_agrees_on_tiny_plants() {
     let mut brute = Comparison::new(&Brute, &Fast);
@@ -95,14 +98,22 @@ fn brute_force_agrees_on_tiny_plants() {
                 brute.preview(&plant, &book, 1, lengths[1]);
                 plain.preview(&plant, &book, 1, lengths[1]);
             }
+            if book_kept != 0 && made == every_move && model.moves > 1 {
+                for masks in [[1, 2], [2, 1]].map(|masks| mask_bytes(&masks)) {
+                    brute.withdraw_list(&plant, &book, &masks, lengths);
+                    plain.withdraw_list(&plant, &book, &masks, lengths);
+                }
+            }
         }
     }
     println!("{tried} tiny plants: {}; {}", brute.summary(), plain.summary());
     println!("made {kept} kept and {lost} lost states, {long} waits above 1");
     assert!(tried > 20_000 && kept > 30_000 && lost > 30_000 && long > 3_000);
+    let [late, repeated] = brute.lists();
+    assert!(late > 3_000 && repeated > 600);
 }
 
-/// Withdrawals from books that nobody made, by brute force.
+/// Withdrawals from books that nobody made, some by lists, by brute force.
 #[test]
 fn brute_force_agrees_on_invented_books() {
     let mut comparison = Comparison::new(&Brute, &Fast);
@@ -117,11 +128,12 @@ fn brute_force_agrees_on_invented_books() {
         }
     }
     println!("{tried} tiny plants: {}", comparison.summary());
-    let [passes, all_served] = comparison.arrivals();
-    assert!(tried > 3_000 && passes > 5_000 && all_served > 5_000);
+    let ([passes, all_served], [late, repeated]) = (comparison.arrivals(), comparison.lists());
+    assert!(tried > 3_000 && passes > 5_000 && all_served > 5_000 && late > 60 && repeated > 30);
 }
 
-/// All families at all sizes: sweeps and worklist agree on makes, and on withdrawals of one move after another.
+/// All families at all sizes: sweeps and worklist agree on makes, and on withdrawals of one move after another, by
+/// single calls and by lists.
 #[test]
 fn sweeps_and_worklist_agree_on_families() {
     let mut comparison = Comparison::new(&Plain, &Fast);
@@ -146,6 +158,6 @@ fn sweeps_and_worklist_agree_in_every_round() {
         println!("{name}: {rounds} rounds from seed {seed}");
     }
     println!("{}", comparison.summary());
-    let [passes, all_served] = comparison.arrivals();
-    assert!(passes > 5_000 && all_served > 2_000);
+    let ([passes, all_served], [late, repeated]) = (comparison.arrivals(), comparison.lists());
+    assert!(passes > 5_000 && all_served > 2_000 && late > 800 && repeated > 300);
 }

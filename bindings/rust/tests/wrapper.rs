@@ -2,7 +2,7 @@
 
 #![deny(warnings)]
 
-use planbook::{consult, good_moves, make_into, plants, preview_into, row, withdraw_into};
+use planbook::{consult, good_moves, make_into, plants, preview_into, row, withdraw_into, withdraw_list_into};
 use planbook::{Advice, Book, Cost, Entry, Preview, Refusal, Withdrawn};
 
 #[test]
@@ -62,6 +62,43 @@ fn withdrawals_in_turn_and_at_once_agree() {
     let mut joined = [first, second].concat();
     joined.sort_unstable();
     assert_eq!(joined, dropped);
+}
+
+#[test]
+fn a_list_is_the_withdrawals_in_turn() {
+    let plant = plants::strip().bytes();
+    let book = Book::make(&plant, 7).expect("P is a plant");
+    let (rest, dropped) = book.withdraw_list(&[2, 4]).expect("moves 1 and 2 exist");
+    assert_eq!((&rest, dropped), (&Book::make(&plant, 1).expect("P is a plant"), vec![]));
+    assert_eq!(book.withdraw_list(&[2, 4]), book.withdraw(6));
+    assert_eq!(book.withdraw_list(&[4, 1]), book.withdraw(5));
+    assert_eq!(book.withdraw_list(&[4, 1]).map(|(rest, dropped)| (rest.mask(), dropped)), Ok((2, vec![0, 1, 2])));
+    assert_eq!(book.withdraw_list(&[]), Ok((book.clone(), vec![])));
+    assert_eq!(book.withdraw_list(&[0; 16]), Ok((book.clone(), vec![])));
+    assert_eq!(book.withdraw_list(&[0; 17]), Err(Refusal::MaskList));
+    assert_eq!((book.withdraw_list(&[1, 8]), book.withdraw_list(&[8, 1])), (Err(Refusal::Mask), Err(Refusal::Mask)));
+    assert_eq!(book.withdraw_list(&[8; 17]), Err(Refusal::MaskList));
+
+    // M9's book, which nobody made: row 1 is lost, and an empty list drops states 0 and 2.
+    let mut bytes = changed(book.bytes(), 6, 2);
+    bytes[24..32].fill(0xff);
+    let book = Book::from_bytes(&plant, &bytes).expect("accepted all the same");
+    let (rest, dropped) = book.withdraw_list(&[]).expect("nothing is named");
+    assert_eq!((rest.kept_count(), rest.mask(), dropped), (0, 7, vec![0, 2]));
+
+    // 16 masks of a move each, from the highest down.
+    let model = plants::Family::Random.build(200, 3);
+    let made = Book::make(&model.bytes(), model.every_move()).expect("a plant");
+    let masks: Vec<u32> = (0..16).rev().map(|action| 1 << action).collect();
+    for count in 0..=16 {
+        let single = |(book, dropped): (Book, Vec<u16>), mask: &u32| {
+            let (book, more) = book.withdraw(*mask).expect("a move of the plant");
+            (book, [dropped, more].concat())
+        };
+        let (last, mut dropped) = masks[..count].iter().fold((made.clone(), vec![]), single);
+        dropped.sort_unstable();
+        assert_eq!(made.withdraw_list(&masks[..count]), Ok((last, dropped)), "{count} masks");
+    }
 }
 
 #[test]
@@ -131,4 +168,26 @@ fn every_refusal_of_a_preview_has_its_name() {
     assert_eq!(preview(&plant, &book, 8, 8), Err(Refusal::Mask));
     assert_eq!(preview(&plant, &book, 4, 7), Err(Refusal::Buffer));
     assert_eq!(preview(&plant, &book, 4, 8), Ok(Cost { drops: 0, kept: 3 }));
+}
+
+#[test]
+fn every_refusal_of_a_list_has_its_name() {
+    let plant = plants::strip().bytes();
+    let (mut book, mut out, mut drops) = ([0; 48], [0; 48], [0; 8]);
+    assert_eq!(make_into(&plant, 7, &mut book), Ok(48));
+    let mut list = |plant: &[u8], book: &[u8], masks: &[u32], lengths: [usize; 2]| {
+        withdraw_list_into(plant, book, masks, &mut out[..lengths[0]], &mut drops[..lengths[1]])
+    };
+    // Each with faults that come after it: a list that is too long, with a mask that is bad, and buffers too short.
+    let bad = [8; 17];
+    assert_eq!(list(&plant[..71], &book, &bad, [47, 7]), Err(Refusal::PlantHeader));
+    assert_eq!(list(&changed(&plant, 16, 8), &book, &bad, [47, 7]), Err(Refusal::PlantLabel));
+    assert_eq!(list(&changed(&plant, 70, 4), &book, &bad, [47, 7]), Err(Refusal::PlantArrow));
+    assert_eq!(list(&changed(&plant, 2, 4), &book, &bad, [47, 7]), Err(Refusal::BookHeader)); // another move
+    assert_eq!(list(&plant, &changed(&book, 6, 2), &bad, [47, 7]), Err(Refusal::BookRow));
+    assert_eq!(list(&plant, &book, &bad, [47, 7]), Err(Refusal::MaskList));
+    assert_eq!(list(&plant, &book, &bad[..16], [47, 7]), Err(Refusal::Mask));
+    assert_eq!(list(&plant, &book, &[2, 4], [47, 8]), Err(Refusal::Buffer));
+    assert_eq!(list(&plant, &book, &[2, 4], [48, 7]), Err(Refusal::Buffer));
+    assert_eq!(list(&plant, &book, &[2, 4], [48, 8]), Ok(Withdrawn { length: 48, drops: 0 }));
 }

@@ -4,11 +4,11 @@
 
 use std::panic::{catch_unwind, set_hook, take_hook, AssertUnwindSafe};
 
-use planbook::calls::Calls;
+use planbook::calls::{mask_bytes, Calls};
 use planbook::compare::{rounds, Comparison};
-use planbook::second::format::{in_mask, number, BookView, Plant};
+use planbook::second::format::{in_mask, number, read_masks, together, BookView, Plant};
 use planbook::second::{Fast, Solve, Table};
-use planbook::sys::{Advice, Answer, Cost, Mask, Part};
+use planbook::sys::{Advice, Answer, Cost, Mask, Part, LONGEST_LIST};
 
 /// A planner that remakes the book and ignores the one handed in.
 struct Remake;
@@ -72,8 +72,11 @@ type Ask = fn(&BookView, usize, usize) -> Advice;
 /// What a preview answers and writes: from the plant, the book, the mask and the drop buffer.
 type Look = fn(&[u8], &[u8], u32, &mut [u8]) -> Cost;
 
+/// What a list of withdrawals answers and writes: from the call, the book buffer and the drop buffer.
+type Sheet = fn(&Lines, &mut [u8], &mut [u8]) -> Answer;
+
 /// A planner with a goal and a rule of its own for the good moves, a consult of its own, a drop list of which it makes
-/// what it likes, and a preview of its own; all else is right.
+/// what it likes, and a preview and a list of withdrawals of its own; all else is right.
 struct Own {
     name: &'static str,
     aim: Aim,
@@ -81,6 +84,7 @@ struct Own {
     ask: Ask,
     list: fn(&mut [[u8; 2]]),
     look: Look,
+    sheet: Sheet,
 }
 
 impl Calls for Own {
@@ -99,6 +103,10 @@ impl Calls for Own {
         (self.list)(&mut numbers);
         part.copy_from_slice(&numbers.concat());
         answer
+    }
+
+    fn withdraw_list(&self, plant: &[u8], book: &[u8], masks: &[u8], out: &mut [u8], drops: &mut [u8]) -> Answer {
+        (self.sheet)(&Lines { plant, book, masks }, out, drops)
     }
 
     fn preview(&self, plant: &[u8], book: &[u8], mask: u32, drops: &mut [u8]) -> Cost {
@@ -193,7 +201,7 @@ fn show(book: &BookView, state: usize, goal: usize) -> Advice {
     shown(book, state, goal, goal)
 }
 
-/// The rules of document 02, and drop lists and previews as they are.
+/// The rules of document 02, and drop lists, previews and lists of withdrawals as they are.
 const RIGHT: Own = Own {
     name: "right",
     aim: |_, book, state, sought| arrive(book, state, sought),
@@ -201,6 +209,7 @@ const RIGHT: Own = Own {
     rule: |plant, book, state, goal| all_into(plant, book.mask, state, rule(book, state, goal)),
     list: |_| {},
     look: |plant, book, mask, drops| Fast.preview(plant, book, mask, drops),
+    sheet: |lines, out, drops| lines.right(out, drops),
 };
 
 const fn wrong_rule(name: &'static str, rule: Rule) -> Own {
@@ -221,6 +230,69 @@ const fn wrong_list(name: &'static str, list: fn(&mut [[u8; 2]])) -> Own {
 
 const fn wrong_look(name: &'static str, look: Look) -> Own {
     Own { name, look, ..RIGHT }
+}
+
+const fn wrong_sheet(name: &'static str, sheet: Sheet) -> Own {
+    Own { name, sheet, ..RIGHT }
+}
+
+/// What a list of withdrawals is handed to read.
+struct Lines<'a> {
+    plant: &'a [u8],
+    book: &'a [u8],
+    masks: &'a [u8],
+}
+
+impl Lines<'_> {
+    /// The right answer, and what is written with it.
+    fn right(&self, out: &mut [u8], drops: &mut [u8]) -> Answer {
+        Fast.withdraw_list(self.plant, self.book, self.masks, out, drops)
+    }
+
+    /// The number of the right answer, for which nothing is solved; nothing is written.
+    fn number(&self, out: &[u8], drops: &[u8]) -> u32 {
+        AllLost.withdraw_list(self.plant, self.book, self.masks, &mut out.to_vec(), &mut drops.to_vec()).number
+    }
+
+    /// The right answer, but with other masks in an accepted list.
+    fn changed(&self, out: &mut [u8], drops: &mut [u8], change: fn(Vec<u32>) -> Vec<u32>) -> Answer {
+        match (self.number(out, drops), read_masks(self.masks)) {
+            (0, Ok(masks)) => self.with(&change(masks), out, drops),
+            _ => self.right(out, drops),
+        }
+    }
+
+    /// The right answer for other masks.
+    fn with(&self, masks: &[u32], out: &mut [u8], drops: &mut [u8]) -> Answer {
+        Lines { masks: &mask_bytes(masks), ..*self }.right(out, drops)
+    }
+
+    /// The whole masks of a list of any length.
+    fn whole_masks(&self) -> Vec<u32> {
+        self.masks.chunks_exact(4).flat_map(|four| read_masks(four).expect("one mask")).collect()
+    }
+
+    /// Whether a mask names only moves that the plant has.
+    fn is_good(&self, mask: u32) -> bool {
+        Plant::read(self.plant).is_ok_and(|plant| plant.has_moves(mask))
+    }
+
+    /// Whether a buffer is too short for the book handed in or for its states.
+    fn is_short(&self, out: &[u8], drops: &[u8]) -> bool {
+        out.len() < self.book.len() || drops.len() < 2 * usize::from(number(self.book, 0))
+    }
+
+    /// The drop lists of the single withdrawals in turn, of an accepted list.
+    fn drop_lists(&self) -> Vec<Vec<u8>> {
+        let mut book = self.book.to_vec();
+        let single = |mask: u32| {
+            let mut list = vec![0; LONGEST_LIST];
+            let answer = Fast.withdraw(self.plant, &book.clone(), mask, &mut book, &mut list);
+            list.truncate(2 * answer.drops as usize);
+            list
+        };
+        read_masks(self.masks).expect("an accepted list").into_iter().map(single).collect()
+    }
 }
 
 /// The moves in service in a book.
@@ -347,6 +419,99 @@ const WRONG_LOOKS: [Own; 7] = [
     wrong_look("the book handed in ignored", |plant, book, mask, drops| Remake.preview(plant, book, mask, drops)),
 ];
 
+/// Planners with one fault each in the list of withdrawals alone. Beside themselves, the first `WRONG_IN_TURN` show by
+/// their single withdrawals in turn, and the others by what they refuse, too, or by what they write though they refuse.
+const WRONG_SHEETS: [Own; 18] = [
+    wrong_sheet("the drop lists joined", |lines, out, drops| {
+        let right = lines.right(out, drops);
+        if right.number == 0 {
+            let joined = lines.drop_lists().concat();
+            drops[..joined.len()].copy_from_slice(&joined);
+        }
+        right
+    }),
+    wrong_sheet("only the last drops listed", |lines, out, drops| match lines.right(out, &mut drops.to_vec()) {
+        right @ Answer { number: 0, .. } => {
+            let last = lines.drop_lists().pop().expect("one withdrawal at least");
+            drops[..last.len()].copy_from_slice(&last);
+            Answer { drops: last.len() as u32 / 2, ..right }
+        }
+        refused => refused,
+    }),
+    wrong_sheet("an empty list hands the old book back", |lines, out, drops| match lines.number(out, drops) {
+        0 if lines.masks.is_empty() => {
+            out[..lines.book.len()].copy_from_slice(lines.book);
+            Answer { number: 0, length: lines.book.len() as u32, drops: 0 }
+        }
+        _ => lines.right(out, drops),
+    }),
+    wrong_sheet("only the last mask", |lines, out, drops| {
+        lines.changed(out, drops, |masks| masks[masks.len() - 1..].to_vec())
+    }),
+    wrong_sheet("the first mask forgotten", |lines, out, drops| lines.changed(out, drops, |masks| masks[1..].to_vec())),
+    wrong_sheet("exclusive or of the masks", |lines, out, drops| {
+        lines.changed(out, drops, |masks| vec![masks.into_iter().fold(0, |all, mask| all ^ mask)])
+    }),
+    wrong_sheet("the book handed in ignored by a list", |lines, out, drops| {
+        Remake.withdraw_list(lines.plant, lines.book, lines.masks, out, drops)
+    }),
+    wrong_sheet("masks high byte first", |lines, out, drops| {
+        lines.changed(out, drops, |masks| masks.into_iter().map(u32::swap_bytes).collect())
+    }),
+    wrong_sheet("60 bytes at most", |lines, out, drops| match lines.number(out, drops) {
+        0 | 6 | 7 if lines.masks.len() > 60 => Answer::refused(9),
+        _ => lines.right(out, drops),
+    }),
+    wrong_sheet("68 bytes at most", |lines, out, drops| match lines.number(out, drops) {
+        9 if lines.masks.len() == 68 => {
+            Fast.withdraw(lines.plant, lines.book, together(&lines.whole_masks()), out, drops)
+        }
+        _ => lines.right(out, drops),
+    }),
+    wrong_sheet("a cut mask left out", |lines, out, drops| match lines.number(out, drops) {
+        9 if lines.masks.len() < 64 && !lines.is_short(out, drops) => lines.with(&lines.whole_masks(), out, drops),
+        _ => lines.right(out, drops),
+    }),
+    wrong_sheet("an empty list refused", |lines, out, drops| match lines.number(out, drops) {
+        0 | 7 if lines.masks.is_empty() => Answer::refused(9),
+        _ => lines.right(out, drops),
+    }),
+    wrong_sheet("9 before all others", |lines, out, drops| match lines.number(out, drops) {
+        1..=5 if read_masks(lines.masks).is_err() => Answer::refused(9),
+        _ => lines.right(out, drops),
+    }),
+    wrong_sheet("6 before 9", |lines, out, drops| match lines.number(out, drops) {
+        9 if !lines.is_good(together(&lines.whole_masks())) => Answer::refused(6),
+        _ => lines.right(out, drops),
+    }),
+    wrong_sheet("7 before 9", |lines, out, drops| match lines.number(out, drops) {
+        9 if lines.is_short(out, drops) => Answer::refused(7),
+        _ => lines.right(out, drops),
+    }),
+    wrong_sheet("7 before 6", |lines, out, drops| match lines.number(out, drops) {
+        6 if lines.is_short(out, drops) => Answer::refused(7),
+        _ => lines.right(out, drops),
+    }),
+    wrong_sheet("a bad mask skipped", |lines, out, drops| match lines.number(out, drops) {
+        6 if !lines.is_short(out, drops) => {
+            let good: Vec<u32> = lines.whole_masks().into_iter().filter(|&mask| lines.is_good(mask)).collect();
+            lines.with(&good, out, drops)
+        }
+        _ => lines.right(out, drops),
+    }),
+    wrong_sheet("good masks before a bad one withdrawn", |lines, out, drops| match lines.number(out, drops) {
+        6 => {
+            let good: Vec<u32> = lines.whole_masks().into_iter().take_while(|&mask| lines.is_good(mask)).collect();
+            if !good.is_empty() {
+                lines.with(&good, out, drops);
+            }
+            Answer::refused(6)
+        }
+        _ => lines.right(out, drops),
+    }),
+];
+const WRONG_IN_TURN: usize = 7;
+
 /// All random rounds, for some calls of each kind.
 fn compare(planner: &dyn Calls, second: &dyn Calls) {
     let mut comparison = Comparison::new(planner, second);
@@ -389,8 +554,13 @@ fn wrong_planners_are_found() {
     let solvers = [&Remake as &dyn Calls, &AllLost, &MayForMust, &ShortWaits];
     let own = WRONG.iter().chain(&WRONG_LOOKS).chain(&WRONG_AIMS).map(|planner| planner as &dyn Calls);
     check_found(solvers.into_iter().chain(own).map(beside_fast), ", plant ");
+    check_found(WRONG_SHEETS.iter().map(|planner| beside_fast(planner)), "in withdraw list, masks ");
     // A wrong preview shows by the planner's own withdrawal, and a wrong goal by its own consult.
     check_found(WRONG_LOOKS.iter().chain(&WRONG_AIMS[..UNSTEADY_AIMS]).map(beside_itself), ", plant ");
+    // A wrong list shows by the planner's own withdrawals, and a wrong refusal of it by that of all its moves at once.
+    let (in_turn, others) = WRONG_SHEETS.split_at(WRONG_IN_TURN);
+    check_found(in_turn.iter().map(beside_itself), " alone, with its single withdrawals in turn second: withdraw list");
+    check_found(others.iter().map(beside_itself), "withdraw list, masks ");
     // Consult takes no plant.
     check_found(WRONG_ASKS.iter().map(|planner| beside_fast(planner)), "in consult, state ");
     check_found(WRONG_ASKS[..UNSTEADY_ASKS].iter().map(beside_itself), ", book ");

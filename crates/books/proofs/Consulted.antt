@@ -1,6 +1,6 @@
 -- Consulting a book and handing back a row, case by case: refused, lost, kept. Assumes nothing.
 use mathlib.Core.Path.{_≡_, refl, sym, ap, ap₂, _∙_}
-use mathlib.Core.Bool.{Bool, true, false, _&&_, not}
+use mathlib.Core.Bool.{Bool, true, false, not}
 use mathlib.Core.List.{List, []}
 use Prim.Native.Nat.{ℕ, suc, _+_, _-_, _*_, _≤_, _<_}
 use native.Mathlib.Omega.{arith}
@@ -8,13 +8,12 @@ use lib.Dec.{eqb}
 use lib.ListN.{length, take, drop, length-drop}
 use lib.Seq.{length-take-le}
 use borrow.Author.Tests.{eq-eqb, ne-eqb, leb-false, lt-leb}
-use Rattle.statements.specs.Plants.{when, plantOf, plantFault}
-use Rattle.statements.specs.Books.{bookLong, bookStates, bookGoals, waitAt, moveAt, isLost, bookHeadOk, bookFault}
-use Rattle.statements.specs.Books.{arrive}
-use Rattle.statements.specs.Calls.{alike, consultFault, movesFault, rowPart}
+use Rattle.statements.specs.Plants.{when}
+use Rattle.statements.specs.Books.{bookLong, bookStates, bookGoals, waitAt, moveAt, isLost, bookFault, arrive}
+use Rattle.statements.specs.Calls.{lentFault, numberFault, consultFault, movesFault, rowPart}
 use Rattle.books.specs.Says.{accepted, keeps, ConsultSays, rowStart}
 use Rattle.sets.proofs.Tests.{or-neither}
-use Rattle.decoding.proofs.Faults.{BookOk, book-ok, first-iff}
+use Rattle.decoding.proofs.Faults.{BookOk, book-ok, lent-ok, first-iff}
 use Rattle.rows.proofs.Rows.{row-within}
 
 -- an answer of 0 says that its test fails
@@ -30,28 +29,29 @@ module _ (b : List ℕ) (x i : ℕ) where
     pub goal : i < bookGoals b
 
   -- an accepted call may rely on all that
-  pub fine : consultFault b x i ≡ 0 → Fine
-  unfolding consultFault
-  fine e =
-      let f = first-iff _ _ .0 e in
-      let t = or-neither _ _ (when-none _ 7 (f .1)) in
+  in-range : bookFault b ≡ 0 → numberFault b x i ≡ 0 → Fine
+  unfolding numberFault
+  in-range book e =
+      let t = or-neither _ _ (when-none _ 7 e) in
       record {
-        head = book-ok b (f .0);
+        head = book-ok b book;
         state = leb-false _ _ (t .0);
         goal = leb-false _ _ (t .1);
       }
 
+  pub fine : consultFault b x i ≡ 0 → Fine
+  unfolding consultFault
+  fine e = let f = first-iff (bookFault b) _ .0 e in in-range (f .0) (f .1)
+
   -- and a call is accepted that hands in so much
   pub is-fine : bookFault b ≡ 0 → x < bookStates b → i < bookGoals b → consultFault b x i ≡ 0
-  unfolding consultFault
+  unfolding consultFault numberFault
   is-fine h hx hi = rw (h, lt-leb _ _ hx, lt-leb _ _ hi)
 
   -- the call for all good moves may rely on as much
   pub moves-fine : (s : List ℕ) → movesFault s b x i ≡ 0 → Fine
   unfolding movesFault
-  moves-fine s e =
-      let book = first-iff (plantFault s) _ .0 e .1 in
-      fine (first-iff (when (not (bookHeadOk b && alike (plantOf s) b)) 4) _ .0 book .1)
+  moves-fine s e = let f = first-iff (lentFault s b) _ .0 e in in-range (lent-ok s b (f .0) .book) (f .1)
 
   -- consult's answer: refused
   pub says-refused : (n : ℕ) → n ≡ consultFault b x i → (n ≡ 0 → ⊥)

@@ -7,5 +7,6 @@ pub mod Listed
 pub mod Previewed
 pub mod Determined
 pub mod Traces
+pub mod InTurn
 pub mod Walked
 pub mod Demands

@@ -17,7 +17,7 @@ use Rattle.demands.proofs.Demand2.{demand-2}
 use Rattle.writing.proofs.Written.{bytes-length}
 use Rattle.writing.proofs.Drops.{dropped-few}
 use Rattle.books.specs.declared.Answer.{Answer}
-use Rattle.books.specs.Says.{WithdrawSays, Lists}
+use Rattle.books.specs.Says.{Writes, WithdrawSays, Lists}
 use Rattle.books.proofs.Made.{drops-fit}
 
 -- numbers read back from their bytes
@@ -63,29 +63,33 @@ module _ (s b : List ℕ) (gone room : ℕ) (d d′ : List ℕ) (n : ℕ)
         size =
             ap length list
             ∙ over-length (bytesOf Dropped) d
-            (rw bytes-length (omega (arith, dropped-few b (withdrawnBook (plantOf s) b gone), ok .states)));
+            (rw bytes-length (omega (arith, dropped-few b (withdrawnBook (plantOf s) b gone), ok .lent .states)));
         past = rw (count, list) (over-past Dropped d);
       }
 
--- what an accepted withdrawal returns, and leaves in its buffers
-module _ {s b : List ℕ} {gone : ℕ} {o o′ d d′ : List ℕ} {r : Answer} (says : WithdrawSays s b gone o o′ d d′ r)
-    (is-accepted : r .number ≡ 0) where
-  pub no-fault : withdrawFault s b gone (length o) (length d) ≡ 0
+-- what an accepted call that writes a book and lists states returns, and leaves in its buffers
+module _ {number-is : ℕ} {after listed o o′ d d′ : List ℕ} {r : Answer}
+    (says : Writes number-is after listed o o′ d d′ r) (is-accepted : r .number ≡ 0) where
+  pub no-fault : number-is ≡ 0
   no-fault = sym (says .number) ∙ is-accepted
 
   -- the book
-  pub book-read : take (r .length) o′ ≡ withdrawnBook (plantOf s) b gone
+  pub book-read : take (r .length) o′ ≡ after
   book-read =
       let q = eq-eqb (r .number) 0 is-accepted in
-      ap (take (r .length)) (rw q at (says .book)) ∙ over-back _ o (r .length) (rw q at (says .length-is))
+      ap (take (r .length)) (rw q at (says .book)) ∙ over-back after o (r .length) (rw q at (says .length-is))
 
-  -- the number of states dropped, and their list
-  pub drops-are : r .drops ≡ length (droppedStates b (withdrawnBook (plantOf s) b gone))
+  -- the number of states listed, and their list
+  pub drops-are : r .drops ≡ length listed
   drops-are = rw (eq-eqb (r .number) 0 is-accepted) at (says .drops)
 
-  pub list-is : d′ ≡ over (bytesOf (droppedStates b (withdrawnBook (plantOf s) b gone))) d
+  pub list-is : d′ ≡ over (bytesOf listed) d
   list-is = rw (eq-eqb (r .number) 0 is-accepted) at (says .list)
 
-  -- the list as it is read
-  pub lists-dropped : Lists s b (take (r .length) o′) d d′ (r .drops)
-  lists-dropped = rw book-read (lists s b gone (length o) d d′ (r .drops) no-fault drops-are list-is)
+-- the list of an accepted withdrawal as it is read
+pub lists-dropped : {s b : List ℕ} {gone : ℕ} {o o′ d d′ : List ℕ} {r : Answer}
+    → WithdrawSays s b gone o o′ d d′ r → r .number ≡ 0 → Lists s b (take (r .length) o′) d d′ (r .drops)
+lists-dropped {s} {b} {gone} {o} {o′} {d} {d′} {r} says z =
+    let w = says .writes in
+    rw (book-read w z)
+    (lists s b gone (length o) d d′ (r .drops) (no-fault w z) (drops-are w z) (list-is w z))

@@ -25,7 +25,8 @@ use Rattle.arrays.proofs.Sieves.{over-done}
 use Rattle.writing.specs.Written.{writtenLong, writtenBook, droppedCount, writtenDrops}
 use Rattle.writing.proofs.Solved.{can-write, written}
 use Rattle.writing.proofs.Drops.{room-listed}
-use Rattle.books.specs.Says.{MakeSays, WithdrawSays}
+use Rattle.books.specs.declared.Answer.{Answer}
+use Rattle.books.specs.Says.{MakeSays, Writes, WithdrawSays}
 use Rattle.books.proofs.Started.{kept-same}
 
 module _ (p : Plant) (mask : ℕ) (test : ℕ → Bool) where
@@ -95,11 +96,11 @@ kept-before p b e =
 -- what make answers
 module _ (s : List ℕ) (mask : ℕ) (o : List ℕ) where
   -- refused
-  pub make-refused : (n : ℕ) → n ≡ makeFault s mask (length o) → (n ≡ 0 → ⊥)
-      → MakeSays s mask o o (record { number = n; length = 0; drops = 0 })
-  make-refused n e h =
+  pub make-refused : (n : ℕ) {r : Answer} → r ≡ record { number = n; length = 0; drops = 0 }
+      → n ≡ makeFault s mask (length o) → (n ≡ 0 → ⊥) → MakeSays s mask o o r
+  make-refused n e en h =
       let no = ne-eqb n 0 h in
-      record { number = e; length-is = rw no; drops = refl; book = rw no }
+      rw e (record { number = en; length-is = rw no; drops = refl; book = rw no })
 
   -- accepted: the book within the allowed states is written
   pub make-done : (start : List ℕ) (long : ℕ) {o′ : List ℕ} → makeFault s mask (length o) ≡ 0
@@ -124,21 +125,23 @@ pub withdrawn-length : (p : Plant) (b : List ℕ) (gone : ℕ)
 unfolding withdrawnBook
 withdrawn-length p b gone = within-length p (lessMask (bookMask b) gone) (keptBefore p b)
 
+-- what a call that writes a book and lists states answers when it is refused
+pub writes-refused : (n number : ℕ) (after listed o d : List ℕ) {r : Answer}
+    → r ≡ record { number = n; length = 0; drops = 0 } → n ≡ number → (n ≡ 0 → ⊥)
+    → Writes number after listed o o d d r
+writes-refused n number after listed o d e en h =
+    let no = ne-eqb n 0 h in
+    rw e
+    (record {
+      number = en;
+      length-is = rw no;
+      drops = rw no;
+      book = rw no;
+      list = rw no;
+    })
+
 -- what withdraw answers
 module _ (s b : List ℕ) (gone : ℕ) (o d : List ℕ) where
-  -- refused
-  pub withdraw-refused : (n : ℕ) → n ≡ withdrawFault s b gone (length o) (length d) → (n ≡ 0 → ⊥)
-      → WithdrawSays s b gone o o d d (record { number = n; length = 0; drops = 0 })
-  withdraw-refused n e h =
-      let no = ne-eqb n 0 h in
-      record {
-        number = e;
-        length-is = rw no;
-        drops = rw no;
-        book = rw no;
-        list = rw no;
-      }
-
   -- accepted: the book within the allowed states that the old book keeps is written, for the old mask less the moves
   -- withdrawn, and the states dropped, by what is read back of it
   pub withdraw-done : (start : List ℕ) (old long count : ℕ) {o′ d′ : List ℕ}
@@ -154,18 +157,21 @@ module _ (s b : List ℕ) (gone : ℕ) (o d : List ℕ) where
       let ok = withdraw-ok s b gone (length o) (length d) e in
       let new = withdrawnBook p b gone in
       let less : old - bitAnd old gone ≡ lessMask (bookMask b) gone = ap (λ (m : ℕ). lessMask m gone) em in
-      let w = within-written s (old - bitAnd old gone) (keptBefore p b) start o (h ∙ kept-before p b (ok .states))
-      (ok .plant) (ok .room-ok) in
+      let w = within-written s (old - bitAnd old gone) (keptBefore p b) start o (h ∙ kept-before p b (ok .lent .states))
+      (ok .lent .plant) (ok .room-ok) in
       let size : long ≡ length new = el ∙ w .0 ∙ sym (withdrawn-length p b gone) in
       let wrote : o′ ≡ over new o =
       eo ∙ w .1 ∙ ap (λ (m : ℕ). over (bookWithin p m (keptBefore p b)) o) less in
       let back : take long o′ ≡ new = ap (take long) wrote ∙ over-back new o long size in
-      let room : 2 * bookStates b ≤ length d = omega (arith, drops-fit p (length d) (ok .drops-ok), ok .states) in
+      let room : 2 * bookStates b ≤ length d = omega (arith, drops-fit p (length d) (ok .drops-ok), ok .lent .states) in
       let gone-states = room-listed b new d room in
       record {
-        number = sym e;
-        length-is = size;
-        drops = rw back at ec ∙ gone-states .0;
-        book = wrote;
-        list = rw back at ed ∙ gone-states .1;
+        writes =
+            record {
+              number = sym e;
+              length-is = size;
+              drops = rw back at ec ∙ gone-states .0;
+              book = wrote;
+              list = rw back at ed ∙ gone-states .1;
+            };
       }

@@ -43,10 +43,10 @@ preview-done {s} {b} {gone} {o} {o′} {d} {d′} {r} kept says long zeros e =
     let new = withdrawnBook (plantOf s) b gone in
     let header : 16 ≤ length new = omega (arith, withdrawn-length (plantOf s) b gone) in
     record {
-      number = says .number ∙ sym (preview-as-longest s b gone (length o) (length d) long);
-      drops = says .drops;
-      kept = e ∙ kept-is (eqb (r .number) 0) new o o′ header zeros (says .book);
-      list = says .list;
+      number = says .writes .number ∙ sym (preview-as-longest s b gone (length o) (length d) long);
+      drops = says .writes .drops;
+      kept = e ∙ kept-is (eqb (r .number) 0) new o o′ header zeros (says .writes .book);
+      list = says .writes .list;
     }
 
 -- what an accepted preview returns, and leaves in its buffer
@@ -73,15 +73,15 @@ previewed =
           p .number
           ∙ preview-as s b gone (length o) (length e) h
           ∙ ap (withdrawFault s b gone (length o)) same
-          ∙ sym (w .number);
+          ∙ sym (w .writes .number);
       agree = λ w p wn pn.
           record {
-            drops = drops-told p pn ∙ sym (drops-are w wn);
+            drops = drops-told p pn ∙ sym (drops-are (w .writes) wn);
             list =
                 list-read _ _ _ _ (drops-told p pn) (list-told p pn)
-                ∙ sym (list-read _ _ _ _ (drops-are w wn) (list-is w wn));
-            buffer = λ same. list-told p pn ∙ ap (over _) same ∙ sym (list-is w wn);
-            kept = kept-told p pn ∙ sym (ap bookCount (book-read w wn));
+                ∙ sym (list-read _ _ _ _ (drops-are (w .writes) wn) (list-is (w .writes) wn));
+            buffer = λ same. list-told p pn ∙ ap (over _) same ∙ sym (list-is (w .writes) wn);
+            kept = kept-told p pn ∙ sym (ap bookCount (book-read (w .writes) wn));
           };
       listed = λ p pn. lists _ _ _ _ _ _ _ (fine p pn) (drops-told p pn) (list-told p pn);
       adds-up = λ p pn.

@@ -9,11 +9,12 @@ use lib.ListN.{length, take}
 use borrow.Author.Tests.{eq-eqb}
 use Rattle.statements.specs.Sets.{pick, over}
 use Rattle.statements.specs.Plants.{plantOf}
-use Rattle.statements.specs.Books.{madeBook, withdrawnBook}
+use Rattle.statements.specs.Books.{madeBook, withdrawnBook, withdrawnList}
 use Rattle.statements.specs.Calls.{makeFault, answerOf, writtenBy, standingAfter, standing, answers}
 use Rattle.demands.proofs.Demand3.{demand-3}
-use Rattle.books.specs.Traces.{Step, made, withdrew, answerIn, bufferIn, Keeps, nextBook, lastBook, Trace}
-use Rattle.books.specs.Traces.{numbersIn, callOf, callsOf, Begun, bookAfter, serviceAfter, Demand-3-traced}
+use Rattle.books.specs.Traces.{Step, made, withdrew, withdrewList, answerIn, bufferIn, Keeps, nextBook, lastBook}
+use Rattle.books.specs.Traces.{Trace, numbersIn, callOf, callsOf, Begun, bookAfter, serviceAfter}
+use Rattle.books.specs.Traces.{Demand-3-traced}
 use Rattle.sets.proofs.Over.{over-back}
 
 -- what an accepted call leaves in its buffer is the book that it writes
@@ -26,7 +27,8 @@ standing-is false b written o o′ l e f = refl
 step-answer : (s b : List ℕ) (c : Step) → Keeps s b c → answerIn c .number ≡ answerOf s b (callOf c)
 unfolding answerIn callOf answerOf
 step-answer s b (made mask o o′ r) k = k .number
-step-answer s b (withdrew gone o o′ d d′ r) k = k .number
+step-answer s b (withdrew gone o o′ d d′ r) k = k .writes .number
+step-answer s b (withdrewList masks o o′ d d′ r) k = k .writes .number
 
 step-book : (s b : List ℕ) (c : Step) → Keeps s b c → nextBook b c ≡ standingAfter s b (callOf c)
 unfolding nextBook standingAfter answerIn bufferIn callOf answerOf writtenBy
@@ -34,17 +36,22 @@ step-book s b (made mask o o′ r) k =
     standing-is (eqb (r .number) 0) b (madeBook (plantOf s) mask) o o′ (r .length) (k .length-is) (k .book)
     ∙ ap (λ n. pick (eqb n 0) (madeBook (plantOf s) mask) b) (k .number)
 step-book s b (withdrew gone o o′ d d′ r) k =
-    standing-is (eqb (r .number) 0) b (withdrawnBook (plantOf s) b gone) o o′ (r .length) (k .length-is) (k .book)
-    ∙ ap (λ n. pick (eqb n 0) (withdrawnBook (plantOf s) b gone) b) (k .number)
+    let w = k .writes in
+    standing-is (eqb (r .number) 0) b (withdrawnBook (plantOf s) b gone) o o′ (r .length) (w .length-is) (w .book)
+    ∙ ap (λ n. pick (eqb n 0) (withdrawnBook (plantOf s) b gone) b) (w .number)
+step-book s b (withdrewList masks o o′ d d′ r) k =
+    let w = k .writes in
+    standing-is (eqb (r .number) 0) b (withdrawnList (plantOf s) b masks) o o′ (r .length) (w .length-is) (w .book)
+    ∙ ap (λ n. pick (eqb n 0) (withdrawnList (plantOf s) b masks) b) (w .number)
 
 -- so does a trace
-trace-book : (s b : List ℕ) (cs : List Step) → Trace s b cs → lastBook b cs ≡ standing s b (callsOf cs)
+pub trace-book : (s b : List ℕ) (cs : List Step) → Trace s b cs → lastBook b cs ≡ standing s b (callsOf cs)
 unfolding lastBook standing callsOf
 trace-book s b [] h = refl
 trace-book s b (c ∷ cs) h =
     trace-book s (nextBook b c) cs (h .1) ∙ ap (λ e. standing s e (callsOf cs)) (step-book s b c (h .0))
 
-trace-answers : (s b : List ℕ) (cs : List Step) → Trace s b cs → numbersIn cs ≡ answers s b (callsOf cs)
+pub trace-answers : (s b : List ℕ) (cs : List Step) → Trace s b cs → numbersIn cs ≡ answers s b (callsOf cs)
 unfolding numbersIn answers callsOf
 trace-answers s b [] h = refl
 trace-answers s b (c ∷ cs) h =

@@ -5,25 +5,28 @@ use mathlib.Core.Logic.{inl, inr}
 use mathlib.Core.Bool.{true, false}
 use mathlib.Core.List.{List}
 use Prim.Native.Nat.{ℕ, zero, suc, _<_}
-use lib.ListN.{length}
+use lib.ListN.{length, take}
 use borrow.Author.Tests.{eq-eqb}
 use Rattle.statements.specs.Sets.{bit}
 use Rattle.statements.specs.Plants.{plantOf, plantFault, ends, available}
 use Rattle.statements.specs.Books.{bookMask, waitAt, moveAt, isLost, bookFault, arrive, goodMoves}
-use Rattle.statements.specs.Calls.{alike, consultFault, movesFault}
+use Rattle.statements.specs.Calls.{alike, lentFault, consultFault, numberFault, movesFault}
 use Rattle.statements.specs.Strategies.{Picks, Serves}
 use Rattle.statements.specs.Demands.{Right}
 use Rattle.winning.proofs.Goals.{arrive-below, arrive-again}
-use Rattle.decoding.proofs.Faults.{plant-ok, arrow-range, book-ok, make-ok, withdraw-ok, first-iff}
+use Rattle.sets.proofs.Tests.{and-true}
+use Rattle.decoding.proofs.Faults.{plant-ok, arrow-range, make-ok, lent-fine, withdraw-ok, first-iff}
 use Rattle.demands.proofs.Demand2.{demand-2}
 use Rattle.books.specs.declared.Advice.{Advice}
+use Rattle.books.specs.declared.Answer.{Answer}
 use Rattle.books.specs.declared.Mask.{Mask}
-use Rattle.books.specs.Says.{accepted, keeps, ConsultSays, MovesSays}
+use Rattle.books.specs.Says.{accepted, keeps, ConsultSays, MovesSays, WithdrawSays}
 use Rattle.books.specs.Walks.{Walk, Walked, Walking, Walks}
 use Rattle.books.proofs.Consulted as consulted
 use Rattle.books.proofs.Listed.{no-fault, book-read}
 use Rattle.books.proofs.Determined.{determined}
 use Rattle.books.proofs.Traces.{fault-zero, demand-3-traced}
+use Rattle.books.proofs.InTurn.{accepted-one}
 
 -- what consult answers for a kept state, once it is accepted
 module _ {b : List ℕ} {x i : ℕ} {r : Advice} (says : ConsultSays b x i r) (fine : consultFault b x i ≡ 0)
@@ -63,16 +66,13 @@ module _ (s : List ℕ) {b : List ℕ} {mask : ℕ} {within : ℕ → Type 0} (p
         consulted.is-fine b x i (right .accepted) (rw (right .is-book .states) hx) (rw (right .is-book .goals) hi)
 
     moves-accepted : movesFault s b x i ≡ 0
-    unfolding movesFault alike
+    unfolding movesFault alike consultFault
     moves-accepted =
-        rw (
-          plant,
-          book-ok b (right .accepted) .head,
-          eq-eqb _ _ (right .is-book .states),
-          eq-eqb _ _ (right .is-book .moves),
-          eq-eqb _ _ (right .is-book .goals),
-        )
-        consult-accepted
+        let same =
+        and-true (eq-eqb _ _ (right .is-book .states))
+        (and-true (eq-eqb _ _ (right .is-book .moves)) (eq-eqb _ _ (right .is-book .goals))) in
+        first-iff (lentFault s b) _ .1
+        (lent-fine s b plant (right .accepted) same, first-iff (bookFault b) _ .0 consult-accepted .1)
 
     -- the goal arrived at is one of the plant's
     arrived : arrive b x i < plantOf s .goals
@@ -190,6 +190,11 @@ module _ (b : List ℕ) (x i : ℕ) (fine : consultFault b x i ≡ 0) where
       let book = first-iff (bookFault b) _ .0 fine .0 in
       consulted.is-fine b x (arrive b x i) book (f .state) (arrive-below b x i (f .goal)) ∙ sym fine
 
+  number-again : numberFault b x (arrive b x i) ≡ numberFault b x i
+  unfolding consultFault
+  number-again =
+      first-iff (bookFault b) _ .0 (fault-again ∙ fine) .1 ∙ sym (first-iff (bookFault b) _ .0 fine .1)
+
   -- and answer the same
   consult-again : {r : Advice} → ConsultSays b x (arrive b x i) r → ConsultSays b x i r
   unfolding accepted keeps
@@ -207,7 +212,7 @@ module _ (b : List ℕ) (x i : ℕ) (fine : consultFault b x i ≡ 0) where
   unfolding movesFault
   moves-again says =
       let again = arrive-again b x i (consulted.fine b x i fine .goal) in
-      record { number = rw fault-again at (says .number); mask = rw again at (says .mask) }
+      record { number = rw number-again at (says .number); mask = rw again at (says .mask) }
 
 -- a consult that says that the state is not lost
 module _ {b : List ℕ} {x i : ℕ} {r : Advice} (says : ConsultSays b x i r) (zero-is : r .number ≡ 0)
@@ -229,15 +234,22 @@ walking :
 walking s plant right states goals moves advice hx kept hi walk =
     walked s plant right states goals moves advice walk (record { state = hx; kept = kept; goal = hi })
 
+-- by the book of an accepted withdrawal
+withdrawn-walks :
+    {s b o o′ d d′ : List ℕ} {gone : ℕ} {r : Answer} → WithdrawSays s b gone o o′ d d′ r → r .number ≡ 0 →
+    Walking s (take (r .length) o′)
+withdrawn-walks {s} {b} {o} {o′} {d} {d′} {gone} says z =
+    let fault = no-fault (says .writes) z in
+    walking s (withdraw-ok s b gone (length o) (length d) fault .lent .plant)
+    (rw (← book-read (says .writes) z) at (demand-2 .withdrawn s b gone (length o) (length d) fault))
+
 pub walks : Walks
 walks =
     record {
       standing = λ s t.
           walking s (make-ok s (t .mask) (length (t .o)) (fault-zero s t) .plant) (demand-3-traced .right s t);
-      withdrawn = λ {s} {b} {o} {o′} {d} {d′} {gone} says z.
-          let fault = no-fault says z in
-          walking s (withdraw-ok s b gone (length o) (length d) fault .plant)
-          (rw (← book-read says z) at (demand-2 .withdrawn s b gone (length o) (length d) fault));
+      withdrawn = withdrawn-walks;
+      withdrawn-list = λ says z. withdrawn-walks (accepted-one says z) z;
       same-advice = λ {b} {x} {i} says z k again.
           determined .consult (consult-again b x i (fine-said says z k) (rw (seek-said says z k) at again)) says;
       same-mask = λ {s} {b} {x} {i} says z k asked again.

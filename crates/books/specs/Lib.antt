@@ -1,7 +1,8 @@
--- What the public calls promise, a preview against the withdrawal, demand 3 over the calls as they go, moves taken from
--- the calls, and all that the contracts cite.
+-- What the public calls promise, a preview against the withdrawal, demand 3 over the calls as they go, a list of
+-- withdrawals against the single ones, moves taken from the calls, and all that the contracts cite.
 pub mod Says
 pub mod Previews
 pub mod Traces
+pub mod InTurn
 pub mod Walks
 pub mod Demands

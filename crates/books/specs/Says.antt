@@ -13,8 +13,8 @@ use Rattle.books.specs.declared.Mask.{Mask}
 use Rattle.statements.specs.Sets.{pick, over, isIn}
 use Rattle.statements.specs.Plants.{words, plantOf}
 use Rattle.statements.specs.Books.{bytesOf, bookGoals, bookCount, waitAt, moveAt, isLost, arrive, goodMoves}
-use Rattle.statements.specs.Books.{madeBook, withdrawnBook, droppedStates}
-use Rattle.statements.specs.Calls.{consultFault, movesFault, makeFault, withdrawFault, previewFault}
+use Rattle.statements.specs.Books.{madeBook, withdrawnBook, withdrawnList, droppedStates}
+use Rattle.statements.specs.Calls.{consultFault, movesFault, makeFault, withdrawFault, withdrawListFault, previewFault}
 use Rattle.statements.specs.Demands.{Rising}
 
 -- a call on a book is accepted
@@ -54,19 +54,30 @@ pub record MakeSays (s : List ℕ) (mask : ℕ) (o o′ : List ℕ) (r : Answer)
   pub drops : r .drops ≡ 0
   pub book : o′ ≡ pick (eqb (r .number) 0) (over (madeBook (plantOf s) mask) o) o
 
--- withdrawing moves from a book b, with a drop buffer that holds d before and d′ after: the number is 1 to 7 or 0; an
--- accepted call writes the book, and the dropped states by rising number, each from its buffer's first byte on, and
--- returns the book's length and the number of states dropped; a refused one writes nothing and has 0 in every other
--- field
-pub record WithdrawSays (s b : List ℕ) (gone : ℕ) (o o′ d d′ : List ℕ) (r : Answer) : Type 0 where
-  pub number : r .number ≡ withdrawFault s b gone (length o) (length d)
-  pub length-is : r .length ≡ pick (eqb (r .number) 0) (length (withdrawnBook (plantOf s) b gone)) 0
-  pub drops : r .drops ≡ pick (eqb (r .number) 0) (length (droppedStates b (withdrawnBook (plantOf s) b gone))) 0
-  pub book : o′ ≡ pick (eqb (r .number) 0) (over (withdrawnBook (plantOf s) b gone) o) o
-  pub list : d′ ≡
-      pick (eqb (r .number) 0) (over (bytesOf (droppedStates b (withdrawnBook (plantOf s) b gone))) d) d
+-- a call that answers a number, and if that is 0 writes a book and a list of states, each from its buffer's first byte
+-- on, and returns the book's length and how many states are listed; a refused one writes nothing and has 0 in every
+-- other field. The book buffer holds o before and o′ after, the drop buffer d before and d′ after
+pub record Writes (number-is : ℕ) (after listed o o′ d d′ : List ℕ) (r : Answer) : Type 0 where
+  pub number : r .number ≡ number-is
+  pub length-is : r .length ≡ pick (eqb (r .number) 0) (length after) 0
+  pub drops : r .drops ≡ pick (eqb (r .number) 0) (length listed) 0
+  pub book : o′ ≡ pick (eqb (r .number) 0) (over after o) o
+  pub list : d′ ≡ pick (eqb (r .number) 0) (over (bytesOf listed) d) d
 
--- previewing that withdrawal: the number is 1 to 7 or 0; an accepted call writes the states that the withdrawal would
+-- withdrawing moves from a book b: the number is 1 to 7 or 0, and the states listed are the dropped ones, rising
+pub record WithdrawSays (s b : List ℕ) (gone : ℕ) (o o′ d d′ : List ℕ) (r : Answer) : Type 0 where
+  pub writes :
+      let after = withdrawnBook (plantOf s) b gone in
+      Writes (withdrawFault s b gone (length o) (length d)) after (droppedStates b after) o o′ d d′ r
+
+-- withdrawing a list of masks: the number is 1 to 5, 9, 6, 7 or 0, and the states listed are those kept at the start
+-- and lost at the end, rising
+pub record WithdrawListSays (s b masks o o′ d d′ : List ℕ) (r : Answer) : Type 0 where
+  pub writes :
+      let after = withdrawnList (plantOf s) b masks in
+      Writes (withdrawListFault s b masks (length o) (length d)) after (droppedStates b after) o o′ d d′ r
+
+-- previewing a withdrawal: the number is 1 to 7 or 0; an accepted call writes the states that the withdrawal would
 -- drop, as it would, and returns their number and K of the book that it would write; a refused one writes nothing and
 -- has 0 in every other field
 pub record PreviewSays (s b : List ℕ) (gone : ℕ) (d d′ : List ℕ) (c : Cost) : Type 0 where
@@ -94,5 +105,8 @@ pub record Determined : Type 0 where
       MakeSays s mask o o′ r → MakeSays s mask o o″ r′ → (r ≡ r′) × (o′ ≡ o″)
   pub withdraw : {s b o o′ o″ d d′ d″ : List ℕ} {gone : ℕ} {r r′ : Answer} →
       WithdrawSays s b gone o o′ d d′ r → WithdrawSays s b gone o o″ d d″ r′ → (r ≡ r′) × (o′ ≡ o″) × (d′ ≡ d″)
+  pub withdraw-list : {s b masks o o′ o″ d d′ d″ : List ℕ} {r r′ : Answer} →
+      WithdrawListSays s b masks o o′ d d′ r → WithdrawListSays s b masks o o″ d d″ r′ →
+      (r ≡ r′) × (o′ ≡ o″) × (d′ ≡ d″)
   pub preview : {s b d d′ d″ : List ℕ} {gone : ℕ} {c c′ : Cost} →
       PreviewSays s b gone d d′ c → PreviewSays s b gone d d″ c′ → (c ≡ c′) × (d′ ≡ d″)

@@ -1,7 +1,8 @@
-// The public calls: make a control book, withdraw moves from one or see what that would cost, consult it for a move or
-// for all good ones, hand back a state's row.
+// The public calls: make a control book, withdraw moves from one, once or by a list, or see what that would cost,
+// consult it for a move or for all good ones, hand back a state's row.
 mod consult;
 mod start;
+mod withdraw;
 
 ghost use mathlib.Core.Path.{_≡_};
 ghost use mathlib.Core.Bool.{not};
@@ -10,7 +11,7 @@ ghost use lib.Dec.{eqb};
 ghost use lib.ListN.{length};
 ghost use Rattle.statements.specs.Calls.{rowPart};
 ghost use Rattle.books.specs.Says.{accepted, ConsultSays, MovesSays, rowStart, MakeSays, WithdrawSays};
-ghost use Rattle.books.specs.Says.{PreviewSays};
+ghost use Rattle.books.specs.Says.{WithdrawListSays, PreviewSays};
 ghost use Rattle.books.specs.Demands.{Demands};
 
 // What consult answers. A refused call has its number, and 0 in every other field; a lost state has `lost`, and 0 in
@@ -94,12 +95,23 @@ pub fn state_row<'a>(book: &'a [u8], state: u32) -> &'a [u8]
     &book[start..end]
 }
 
-// What make and withdraw answer: the number of a refusal or 0, the length of the book written and the number of states
-// dropped. A refused call has 0 in both.
+// What make, withdraw and a list of withdrawals answer: the number of a refusal or 0, the length of the book written
+// and the number of states dropped. A refused call has 0 in both.
 pub struct Answer {
     pub number: u8,
     pub length: u32,
     pub drops: u32,
+}
+
+// The answer of a call that is refused.
+fn refused(number: u8) -> Answer
+    ensures { λ r. ⌜ r ≡ record { number = number; length = 0; drops = 0 } ⌝ }
+{
+    Answer {
+        number: number,
+        length: 0,
+        drops: 0,
+    }
 }
 
 // Takes a plant, a mask and a book buffer. Writes the book and returns its length.
@@ -109,11 +121,7 @@ pub fn make_book(plant: &[u8], mask: u32, out: &mut [u8]) -> Answer
 {
     let fault = refusals::make(plant, mask, out.len());
     if fault != 0 {
-        return Answer {
-            number: fault,
-            length: 0,
-            drops: 0,
-        };
+        return refused(fault);
     }
     let mut list = [0u16; 1024];
     let all = start::states(plant, &mut list);
@@ -141,23 +149,31 @@ pub fn withdraw_moves(
 {
     let fault = refusals::withdraw(plant, book, mask, out.len(), drops.len());
     if fault != 0 {
-        return Answer {
-            number: fault,
-            length: 0,
-            drops: 0,
-        };
+        return refused(fault);
     }
-    let mut list = [0u16; 1024];
-    let before = start::kept(book, &mut list);
-    let kept = start::allowed(plant, &mut list, before);
-    let old = rows::mask(book);
-    let length = writing::book(plant, old - (old & mask), &list[..kept], out);
-    let count = writing::dropped(book, &out[..length as usize], drops);
-    Answer {
-        number: 0,
-        length: length,
-        drops: count,
+    withdraw::accepted(plant, book, mask, out, drops)
+}
+
+// Takes a plant, a book, a list of up to 16 masks of moves to withdraw, four bytes each, a book buffer and a drop
+// buffer. Writes the book that the single withdrawals in turn come to, which is that of one withdrawal of all moves
+// that they name, and, by rising number, the states kept at the start and lost at the end; returns the book's length
+// and how many they are. An empty list acts as one mask of 0.
+pub fn withdraw_list(
+    plant: &[u8],
+    book: &[u8],
+    masks: &[u8],
+    out: &mut [u8],
+    drops: &mut [u8],
+) -> Answer
+    ensures { λ r. ⌜ WithdrawListSays (now (plant .entry)) (now (book .entry)) (now (masks .entry))
+        (now (out .entry)) (now (out .exit)) (now (drops .entry)) (now (drops .exit)) r ⌝ }
+    ensures demands { λ _. ⌜ Demands ⌝ }
+{
+    let fault = refusals::withdraw_list(plant, book, masks, out.len(), drops.len());
+    if fault != 0 {
+        return refused(fault);
     }
+    withdraw::accepted(plant, book, format::word::union(masks), out, drops)
 }
 
 // What a preview answers: the number of a refusal or 0, the number of states that the withdrawal would drop and that

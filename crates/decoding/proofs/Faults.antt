@@ -14,11 +14,13 @@ use Rattle.statements.specs.Sets.{every, bit, isIn}
 use Rattle.statements.specs.Plants.{word, Arrow, Plant, words, plantOf, headOk, labelsOk, arrowsOk, rank}
 use Rattle.statements.specs.Plants.{firstOf, when, plantFault, allowed, endsIn}
 use Rattle.statements.specs.Books.{bookLong, bookStates, bookMoves, bookGoals, bookMask, maskOk, bookHeadOk, rowsOk}
-use Rattle.statements.specs.Books.{bookCount, isLost, isHeld, bookKept, bookFault}
-use Rattle.statements.specs.Calls.{maskFault, bookRoom, dropRoom, makeFault, alike, lentFault, withdrawFault}
-use Rattle.statements.specs.Calls.{previewFault, makes, withdraws, toldOf}
+use Rattle.statements.specs.Books.{bookCount, isLost, isHeld, bookKept, bookFault, eachOk, masksOf, unionOf}
+use Rattle.statements.specs.Calls.{maskFault, wholeMasks, masksFault, bookRoom, dropRoom, roomFault, makeFault, alike}
+use Rattle.statements.specs.Calls.{lentFault, withdrawFault, withdrawListFault, previewFault, makes, withdraws}
+use Rattle.statements.specs.Calls.{withdrawsList, toldOf}
 use Rattle.sets.proofs.Tests.{same-number, and-left, and-right, and-iff}
 use Rattle.sets.proofs.Members.{isIn-none, isIn-consIf}
+use Rattle.decoding.proofs.Masks.{union-ok}
 use Rattle.decoding.proofs.Sizes.{Sizes, entries-most, long-most}
 
 pub first-iff : (a b : ℕ) → (firstOf a b ≡ 0) ↔ ((a ≡ 0) × (b ≡ 0))
@@ -29,6 +31,11 @@ first-iff (suc a) b = (λ h. absurd (omega arith), λ h. h .0)
 pub first-given : (a b : ℕ) → (a ≡ 0 → ⊥) → firstOf a b ≡ a
 first-given zero b h = absurd (h refl)
 first-given (suc a) b h = refl
+
+-- and if it is, the second does
+pub first-passed : (a b : ℕ) → a ≡ 0 → firstOf a b ≡ b
+first-passed zero b h = refl
+first-passed (suc a) b h = absurd (omega arith)
 
 -- a refusal when a test fails
 pub when-iff : (t : Bool) (n : ℕ) → (when (not t) (suc n) ≡ 0) ↔ (t ≡ true)
@@ -159,59 +166,102 @@ make-ok s mask room h =
     let later = first-iff (when (not (maskOk (p .moves) mask)) 6) _ .0 (all .1) in
     record { plant = all .0; mask-ok = when-iff _ 5 .0 (later .0); room-ok = when-iff _ 6 .0 (later .1) }
 
--- an accepted withdrawal
-pub record WithdrawOk (s b : List ℕ) (gone room drops : ℕ) : Type 0 where
+-- a plant and a book for it that are accepted
+pub record LentOk (s b : List ℕ) : Type 0 where
   pub plant : plantFault s ≡ 0
   pub book : bookFault b ≡ 0
   pub states : bookStates b ≡ plantOf s .states
   pub moves : bookMoves b ≡ plantOf s .moves
   pub goals : bookGoals b ≡ plantOf s .goals
   pub mask-ok : maskOk (plantOf s .moves) (bookMask b) ≡ true
+
+pub lent-ok : (s b : List ℕ) → lentFault s b ≡ 0 → LentOk s b
+unfolding lentFault alike
+lent-ok s b h =
+    let p = plantOf s in
+    let all = first-iff (plantFault s) _ .0 h in
+    let later = first-iff (when (not (bookHeadOk b && alike p b)) 4) _ .0 (all .1) in
+    let same = and-right (bookHeadOk b) (alike p b) (when-iff (bookHeadOk b && alike p b) 3 .0 (later .0)) in
+    let sizes = simp and-iff at same in
+    let moves-same : bookMoves b ≡ p .moves = omega (arith, eqb-true) in
+    record {
+      plant = all .0;
+      book = later .1;
+      states = omega (arith, eqb-true);
+      moves = moves-same;
+      goals = omega (arith, eqb-true);
+      mask-ok = rw moves-same at (book-ok b (later .1) .mask-ok);
+    }
+
+-- what it takes for that
+pub lent-fine : (s b : List ℕ) → plantFault s ≡ 0 → bookFault b ≡ 0 → alike (plantOf s) b ≡ true → lentFault s b ≡ 0
+unfolding lentFault
+lent-fine s b h hb same = rw (h, book-ok b hb .head, same, hb)
+
+-- an accepted withdrawal
+pub record WithdrawOk (s b : List ℕ) (gone room drops : ℕ) : Type 0 where
+  pub lent : LentOk s b
   pub gone-ok : maskOk (plantOf s .moves) gone ≡ true
   pub room-ok : bookRoom (plantOf s) room ≡ true
   pub drops-ok : dropRoom (plantOf s) drops ≡ true
 
 pub withdraw-ok : (s b : List ℕ) (gone room drops : ℕ) → withdrawFault s b gone room drops ≡ 0
     → WithdrawOk s b gone room drops
-unfolding withdrawFault lentFault maskFault alike
+unfolding withdrawFault maskFault roomFault
 withdraw-ok s b gone room drops h =
     let p = plantOf s in
-    let all = first-iff (lentFault s b gone) _ .0 h in
-    let lent = first-iff (plantFault s) _ .0 (all .0) in
-    let after-plant = first-iff (when (not (bookHeadOk b && alike p b)) 4) _ .0 (lent .1) in
-    let after-head = first-iff (bookFault b) _ .0 (after-plant .1) in
-    let same = and-right (bookHeadOk b) (alike p b) (when-iff (bookHeadOk b && alike p b) 3 .0 (after-plant .0)) in
-    let sizes = simp and-iff at same in
-    let rooms = and-iff (bookRoom p room) (dropRoom p drops) .0 (when-iff _ 6 .0 (all .1)) in
-    let moves-same : bookMoves b ≡ p .moves = omega (arith, eqb-true) in
+    let all = first-iff (lentFault s b) _ .0 h in
+    let later = first-iff (when (not (maskOk (p .moves) gone)) 6) _ .0 (all .1) in
+    let rooms = and-iff (bookRoom p room) (dropRoom p drops) .0 (when-iff _ 6 .0 (later .1)) in
     record {
-      plant = lent .0;
-      book = after-head .0;
-      states = omega (arith, eqb-true);
-      moves = moves-same;
-      goals = omega (arith, eqb-true);
-      mask-ok = rw moves-same at (book-ok b (after-head .0) .mask-ok);
-      gone-ok = when-iff _ 5 .0 (after-head .1);
+      lent = lent-ok s b (all .0);
+      gone-ok = when-iff _ 5 .0 (later .0);
       room-ok = rooms .0;
       drops-ok = rooms .1;
     }
+
+-- a list of withdrawals
+module _ (s b m : List ℕ) (room drops : ℕ) where
+  -- a whole one is answered as one withdrawal of all moves that its masks name
+  pub list-as : wholeMasks m ≡ true
+      → withdrawListFault s b m room drops ≡ withdrawFault s b (unionOf (masksOf m)) room drops
+  unfolding withdrawListFault withdrawFault masksFault maskFault
+  list-as h = rw (h, union-ok (plantOf s .moves) (masksOf m))
+
+  module _ (h : withdrawListFault s b m room drops ≡ 0) where
+    -- an accepted one has no fault in what is lent, its masks and its buffers
+    pub list-parts : (lentFault s b ≡ 0) × (masksFault (plantOf s) m ≡ 0) × (roomFault (plantOf s) room drops ≡ 0)
+    unfolding withdrawListFault
+    list-parts =
+        let all = first-iff (lentFault s b) _ .0 h in
+        let later = first-iff (masksFault (plantOf s) m) _ .0 (all .1) in
+        (all .0, later .0, later .1)
+
+    -- it is whole, and each mask is one of the plant's moves
+    pub list-masks : (wholeMasks m ≡ true) × (eachOk (plantOf s .moves) (masksOf m) ≡ true)
+    unfolding masksFault
+    list-masks =
+        let parts = first-iff (when (not (wholeMasks m)) 9) _ .0 (list-parts .1) in
+        (when-iff _ 8 .0 (parts .0), when-iff _ 5 .0 (parts .1))
+
+    -- so that one withdrawal of all moves that they name is accepted
+    pub list-at-once : withdrawFault s b (unionOf (masksOf m)) room drops ≡ 0
+    list-at-once = sym (list-as (list-masks .0)) ∙ h
 
 -- a preview answers as the withdrawal does with a book buffer that is long enough; 32,784 bytes are, unless the plant
 -- is refused
 module _ (s b : List ℕ) (gone room drops : ℕ) where
   pub preview-as : bookLong (plantOf s .states) (plantOf s .goals) ≤ room
       → previewFault s b gone drops ≡ withdrawFault s b gone room drops
-  unfolding previewFault withdrawFault bookRoom
+  unfolding previewFault withdrawFault roomFault bookRoom
   preview-as h = rw (le-leb _ _ h)
 
   pub preview-as-longest : room ≡ 32784 → previewFault s b gone drops ≡ withdrawFault s b gone room drops
-  unfolding previewFault withdrawFault lentFault
+  unfolding previewFault withdrawFault
   preview-as-longest e =
-      elim (same-number (lentFault s b gone) 0) [
-        | inl z ↦
-            let plant = first-iff (plantFault s) _ .0 z .0 in
-            preview-as (omega (arith, long-few s plant))
-        | inr h ↦ first-given (lentFault s b gone) _ h ∙ sym (first-given (lentFault s b gone) _ h)
+      elim (same-number (lentFault s b) 0) [
+        | inl z ↦ preview-as (omega (arith, long-few s (lent-ok s b z .plant)))
+        | inr h ↦ first-given (lentFault s b) _ h ∙ sym (first-given (lentFault s b) _ h)
       ]
 
 -- once the plant is accepted, a make answers as told from the call alone
@@ -220,9 +270,14 @@ pub make-told : (s : List ℕ) (mask room : ℕ) → plantFault s ≡ 0
 unfolding makeFault toldOf
 make-told s mask room h = rw h
 
--- and so does a withdrawal, once the book is accepted and for the plant's numbers of states, moves and goals
-pub withdraw-told : (s b : List ℕ) (gone room drops : ℕ) → plantFault s ≡ 0 → bookFault b ≡ 0
-    → alike (plantOf s) b ≡ true
-    → withdrawFault s b gone room drops ≡ toldOf (plantOf s) (withdraws gone room drops)
-unfolding withdrawFault lentFault toldOf
-withdraw-told s b gone room drops h hb same = rw (h, book-ok b hb .head, same, hb)
+-- and so do a withdrawal and a list of them, once the book is accepted with the plant
+module _ (s b : List ℕ) (room drops : ℕ) (h : lentFault s b ≡ 0) where
+  pub withdraw-told : (gone : ℕ)
+      → withdrawFault s b gone room drops ≡ toldOf (plantOf s) (withdraws gone room drops)
+  unfolding withdrawFault toldOf
+  withdraw-told gone = rw h
+
+  pub list-told : (m : List ℕ)
+      → withdrawListFault s b m room drops ≡ toldOf (plantOf s) (withdrawsList m room drops)
+  unfolding withdrawListFault toldOf
+  list-told m = rw h

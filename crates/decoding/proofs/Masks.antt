@@ -1,15 +1,20 @@
--- The bits of a mask less another: those of the one that are not in the other. Assumes nothing.
-use mathlib.Core.Path.{_≡_, refl, sym, _∙_}
-use mathlib.Core.Bool.{true, false, _&&_, not}
+-- The bits of a mask less another: those of the one that are not in the other. The masks of a list joined: all that one
+-- of them names. Assumes nothing.
+use mathlib.Core.Path.{_≡_, refl, sym, ap, _∙_}
+use mathlib.Core.Logic.{_↔_, inl, inr}
+use mathlib.Core.Bool.{Bool, true, false, _&&_, _||_, not, true≢false}
+use mathlib.Core.List.{List, [], _∷_}
 use Prim.Native.Nat.{ℕ, zero, suc, _-_, _/_, _%_, _^_, _<_}
 use native.Mathlib.Omega.{arith}
 use lib.Dec.{eqb}
-use lib.Bits.{bitAnd, and-step, and-le-l}
-use borrow.Author.Tests.{ltb-true, lt-ltb, not-true}
-use Rattle.statements.specs.Sets.{bit}
-use Rattle.statements.specs.Books.{lessMask, maskOk}
-use Rattle.sets.proofs.Tests.{and-left, and-right}
-use Rattle.sets.proofs.Bits.{bit-suc, bit-zero}
+use lib.Bits.{bitAnd, bitOr, and-step, and-le-l, and-le-r, and-zero-r, or-lt, or-add-and}
+use lib.Pow.{pow-pos}
+use borrow.Author.Tests.{ltb-true, lt-ltb, eqb-true, eq-eqb, not-true}
+use Rattle.statements.specs.Sets.{bit, isIn}
+use Rattle.statements.specs.Books.{lessMask, maskOk, eachOk, unionOf}
+use Rattle.sets.proofs.Tests.{same-test, and-true, and-left, and-right, or-left, or-right, or-cases}
+use Rattle.sets.proofs.Members.{isIn-none}
+use Rattle.sets.proofs.Bits.{bit-suc, bit-zero, bit-none, all-bits, or-bit}
 
 less-half : (a b : ℕ) → lessMask a b / 2 ≡ lessMask (a / 2) (b / 2)
 unfolding lessMask
@@ -43,3 +48,65 @@ less-bit u a b h =
 pub less-ok : (u a b : ℕ) → maskOk u a ≡ true → maskOk u (lessMask a b) ≡ true
 unfolding maskOk lessMask
 less-ok u a b h = lt-ltb (a - bitAnd a b) (2 ^ u) (omega (arith, ltb-true a (2 ^ u) h))
+
+-- less no moves it is as it was
+pub less-none : (a : ℕ) → lessMask a 0 ≡ a
+unfolding lessMask
+less-none a = omega (arith, and-zero-r a)
+
+-- less one mask and then less another it is less both joined
+pub less-both : (a b c : ℕ) → lessMask (lessMask a b) c ≡ lessMask a (bitOr b c)
+less-both a b c =
+    all-bits (lessMask (lessMask a b) c) (lessMask a (bitOr b c))
+    (λ u.
+    rw (less-is u (lessMask a b) c, less-is u a b, less-is u a (bitOr b c), or-bit u b c)
+    (neither (bit u a) (bit u b) (bit u c)))
+  where
+    neither : (r s t : Bool) → ((r && not s) && not t) ≡ (r && not (s || t))
+    neither true true t = refl
+    neither true false t = refl
+    neither false s t = refl
+
+-- two masks joined have moves below u alone just when both have
+pub or-ok : (u a b : ℕ) → maskOk u (bitOr a b) ≡ (maskOk u a && maskOk u b)
+unfolding maskOk
+or-ok u a b =
+    let sum = or-add-and a b in
+    same-test (maskOk u (bitOr a b)) (maskOk u a && maskOk u b)
+    (λ h.
+    let below = ltb-true (bitOr a b) (2 ^ u) h in
+    and-true (lt-ltb a (2 ^ u) (omega (arith, and-le-r a b))) (lt-ltb b (2 ^ u) (omega (arith, and-le-l a b))))
+    (λ h.
+    lt-ltb (bitOr a b) (2 ^ u)
+    (or-lt u a b (ltb-true a (2 ^ u) (and-left (maskOk u a) (maskOk u b) h))
+    (ltb-true b (2 ^ u) (and-right (maskOk u a) (maskOk u b) h))))
+
+-- a mask of no moves has
+none-ok : (u : ℕ) → maskOk u 0 ≡ true
+unfolding maskOk
+none-ok u = lt-ltb 0 (2 ^ u) (pow-pos u)
+
+-- all masks of a list joined, just when each has
+pub union-ok : (u : ℕ) (masks : List ℕ) → maskOk u (unionOf masks) ≡ eachOk u masks
+unfolding unionOf eachOk
+union-ok u [] = none-ok u
+union-ok u (gone ∷ more) = or-ok u gone (unionOf more) ∙ ap (λ (t : Bool). maskOk u gone && t) (union-ok u more)
+
+-- they name a move just when one of them does
+pub union-names : (masks : List ℕ) (u : ℕ) →
+    (bit u (unionOf masks) ≡ true) ↔ ((gone : ℕ) × (isIn gone masks ≡ true) × (bit u gone ≡ true))
+unfolding unionOf isIn
+union-names [] u = (λ h. absurd (true≢false (sym h ∙ bit-none u)), λ h. absurd (isIn-none (h .0) (h .1)))
+union-names (first ∷ more) u = (
+  λ h.
+      elim (or-cases (bit u first) (bit u (unionOf more)) (sym (or-bit u first (unionOf more)) ∙ h)) [
+        | inl e ↦ (first, or-left (eqb first first) _ (eq-eqb first first refl), e)
+        | inr e ↦ let r = union-names more u .0 e in (r .0, or-right (eqb (r .0) first) _ (r .1), r .2)
+      ],
+  λ h.
+      or-bit u first (unionOf more)
+      ∙ elim (or-cases (eqb (h .0) first) (isIn (h .0) more) (h .1)) [
+        | inl e ↦ or-left (bit u first) _ (rw (eqb-true (h .0) first e) at (h .2))
+        | inr e ↦ or-right (bit u first) _ (union-names more u .1 (h .0, e, h .2))
+      ],
+)

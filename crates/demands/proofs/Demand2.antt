@@ -83,7 +83,7 @@ module _ (s b : List ℕ) (gone room drops : ℕ) (h : withdrawFault s b gone ro
       → (not (isLost b x) && not (isLost After x)) ≡ not (isLost After x)
   kept-both x m =
       let below : x < plantOf s .states =
-      omega (arith, numbers-holds (bookStates b) 0 x m, withdraw-ok s b gone room drops h .states) in
+      omega (arith, numbers-holds (bookStates b) 0 x m, withdraw-ok s b gone room drops h .lent .states) in
       same-test (not (isLost b x) && not (isLost After x)) (not (isLost After x))
       (and-right (not (isLost b x)) (not (isLost After x)))
       (λ k. and-true (ap not (kept-before x below (not-true (isLost After x) k))) k)
@@ -96,7 +96,7 @@ module _ (s b : List ℕ) (gone room drops : ℕ) (h : withdrawFault s b gone ro
       filter-filter (λ x. not (isLost After x)) (λ x. not (isLost b x)) all
       ∙ filter-same (λ x. not (isLost b x) && not (isLost After x)) (λ x. not (isLost After x)) all kept-both
       ∙ ap (λ (n : ℕ). filter (λ x. not (isLost After x)) (numbers n 0))
-      (withdraw-ok s b gone room drops h .states ∙ sym (new .states))
+      (withdraw-ok s b gone room drops h .lent .states ∙ sym (new .states))
 
   -- the states dropped and those still kept
   adds-up : length (droppedStates b After) + bookCount After ≡ bookCount b
@@ -107,7 +107,7 @@ module _ (s b : List ℕ) (gone room drops : ℕ) (h : withdrawFault s b gone ro
         filter-parts (isLost After) (bookKept b),
         ap length still-kept,
         new .count,
-        book-ok b (withdraw-ok s b gone room drops h .book) .count,
+        book-ok b (withdraw-ok s b gone room drops h .lent .book) .count,
       )
 
 -- demand 2
@@ -118,7 +118,7 @@ demand-2 =
       made = λ s mask room h. right (given-made s mask room h);
       withdrawn = λ s b gone room drops h. right (given-withdrawn s b gone room drops h);
       dropped = λ s b gone room drops h x.
-          rw (withdraw-ok s b gone room drops h .states) at (dropped-iff b (withdrawnBook (plantOf s) b gone) x);
+          rw (withdraw-ok s b gone room drops h .lent .states) at (dropped-iff b (withdrawnBook (plantOf s) b gone) x);
       rising = dropped-rising;
       adds-up = adds-up;
     }

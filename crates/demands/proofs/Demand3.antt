@@ -9,16 +9,16 @@ use lib.Dec.{eqb}
 use borrow.Author.Tests.{eqb-true}
 use Rattle.statements.specs.Sets.{pick}
 use Rattle.statements.specs.Plants.{Plant, plantOf, plantFault}
-use Rattle.statements.specs.Books.{maskOk, madeBook}
-use Rattle.statements.specs.Calls.{makeFault, Call, makes, withdraws, answerOf, writtenBy, standingAfter}
-use Rattle.statements.specs.Calls.{standing, answers, toldOf, told, putBy, inService}
+use Rattle.statements.specs.Books.{maskOk, madeBook, masksOf, unionOf, withdrawnList}
+use Rattle.statements.specs.Calls.{makeFault, lentFault, Call, makes, withdraws, withdrawsList, answerOf, writtenBy}
+use Rattle.statements.specs.Calls.{standingAfter, standing, answers, toldOf, told, putBy, inService}
 use Rattle.statements.specs.Demands.{Allowed, Right, Demand-3}
 use Rattle.sets.proofs.Tests.{decided}
 use Rattle.decoding.proofs.Masks.{less-ok}
-use Rattle.decoding.proofs.Faults.{plant-ok, make-ok, make-told, withdraw-told}
+use Rattle.decoding.proofs.Faults.{plant-ok, make-ok, lent-fine, make-told, withdraw-told, list-told}
 use Rattle.demands.proofs.Plants.{given-allowed}
 use Rattle.demands.proofs.Books.{right}
-use Rattle.demands.proofs.Afresh.{made-same, made-alike, made-accepted, withdrawn-afresh}
+use Rattle.demands.proofs.Afresh.{made-same, made-alike, made-accepted, withdrawn-afresh, in-turn-afresh}
 
 -- the moves in service after a call, told from the call alone
 abbrev pub putAfter : Plant → ℕ → Call → ℕ
@@ -26,26 +26,36 @@ putAfter p mask c = pick (eqb (toldOf p c) 0) (putBy mask c) mask
 
 module _ (s : List ℕ) (accepted : plantFault s ≡ 0) where
   module _ (mask : ℕ) (ok : maskOk (plantOf s .moves) mask ≡ true) where
-    -- a call on the book of a making answers as told from the call alone
+    -- the book of a making is accepted with its plant
+    pub made-lent : lentFault s (madeBook (plantOf s) mask) ≡ 0
+    made-lent =
+        lent-fine s (madeBook (plantOf s) mask) accepted (made-accepted (plantOf s) (plant-ok s accepted) mask ok)
+        (made-alike (plantOf s) mask)
+
+    -- so that a call on it answers as told from the call alone
     pub answer-told : (c : Call) → answerOf s (madeBook (plantOf s) mask) c ≡ toldOf (plantOf s) c
     unfolding answerOf
     answer-told (makes new room) = make-told s new room accepted
     answer-told (withdraws gone room drops) =
-        withdraw-told s (madeBook (plantOf s) mask) gone room drops accepted
-        (made-accepted (plantOf s) (plant-ok s accepted) mask ok) (made-alike (plantOf s) mask)
+        withdraw-told s (madeBook (plantOf s) mask) room drops made-lent gone
+    answer-told (withdrawsList masks room drops) =
+        list-told s (madeBook (plantOf s) mask) room drops made-lent masks
 
     -- what it writes is the book of a making afresh
     pub written-afresh :
         (c : Call) → writtenBy s (madeBook (plantOf s) mask) c ≡ madeBook (plantOf s) (putBy mask c)
-    unfolding writtenBy putBy
+    unfolding writtenBy putBy withdrawnList
     written-afresh (makes new room) = refl
     written-afresh (withdraws gone room drops) = withdrawn-afresh (plantOf s) (plant-ok s accepted) mask ok gone
+    written-afresh (withdrawsList masks room drops) =
+        in-turn-afresh (plantOf s) (plant-ok s accepted) mask ok (masksOf masks)
 
     -- an accepted call puts a mask of the plant's moves in service
     put-ok : (c : Call) → toldOf (plantOf s) c ≡ 0 → maskOk (plantOf s .moves) (putBy mask c) ≡ true
     unfolding putBy
     put-ok (makes new room) e = make-ok s new room (make-told s new room accepted ∙ e) .mask-ok
     put-ok (withdraws gone room drops) e = less-ok (plantOf s .moves) mask gone ok
+    put-ok (withdrawsList masks room drops) e = less-ok (plantOf s .moves) mask (unionOf (masksOf masks)) ok
 
     -- any call leaves one there
     pub after-ok : (c : Call) → maskOk (plantOf s .moves) (putAfter (plantOf s) mask c) ≡ true

@@ -18,7 +18,7 @@ use Rattle.kept.proofs.Kept.{kept-sifted, kept-forced}
 use Rattle.kept.proofs.Waits.{wait-short, listed-into}
 use Rattle.decoding.proofs.Fits.{Fits}
 use Rattle.decoding.proofs.Masks.{less-ok}
-use Rattle.decoding.proofs.Faults.{PlantOk, plant-ok, arrow-range, allowed-below, make-ok, withdraw-ok}
+use Rattle.decoding.proofs.Faults.{PlantOk, plant-ok, arrow-range, allowed-below, make-ok, LentOk, withdraw-ok}
 
 -- an accepted plant, a mask of its moves, and a test that holds at states alone
 pub record Given (p : Plant) (mask : ℕ) (within : ℕ → Bool) : Type 0 where
@@ -52,18 +52,22 @@ given-made s mask room h =
     let ok = make-ok s mask room h in
     given-allowed (plantOf s) mask (plant-ok s (ok .plant)) (ok .mask-ok)
 
--- an accepted withdrawal
-pub given-withdrawn : (s b : List ℕ) (gone room drops : ℕ) → withdrawFault s b gone room drops ≡ 0
+-- withdrawing moves from a book that is accepted with the plant
+pub given-before : (s b : List ℕ) (gone : ℕ) → LentOk s b
     → Given (plantOf s) (lessMask (bookMask b) gone) (keptBefore (plantOf s) b)
-given-withdrawn s b gone room drops h =
+given-before s b gone ok =
     let p = plantOf s in
-    let ok = withdraw-ok s b gone room drops h in
     let plant-is-ok = plant-ok s (ok .plant) in
     record {
       plant = plant-is-ok;
       mask-ok = less-ok (p .moves) (bookMask b) gone (ok .mask-ok);
       below = λ x w. allowed-below p plant-is-ok x (before-allowed p b x w);
     }
+
+-- an accepted withdrawal
+pub given-withdrawn : (s b : List ℕ) (gone room drops : ℕ) → withdrawFault s b gone room drops ≡ 0
+    → Given (plantOf s) (lessMask (bookMask b) gone) (keptBefore (plantOf s) b)
+given-withdrawn s b gone room drops h = given-before s b gone (withdraw-ok s b gone room drops h .lent)
 
 module _ {p : Plant} {mask : ℕ} {within : ℕ → Bool} (given : Given p mask within) where
   -- there is a goal

@@ -1,10 +1,10 @@
-// Two-byte numbers in a byte slice, the low byte first, and the bits of a number.
+// Two-byte numbers in a byte slice, the low byte first, masks of four bytes, and the bits of a number.
 ghost use mathlib.Core.Path.{_≡_};
 ghost use Prim.Native.Nat.{_+_, _*_, _<_};
 ghost use lib.ListN.{length, drop};
 ghost use Rattle.statements.specs.Sets.{bit};
 ghost use Rattle.statements.specs.Plants.{word};
-ghost use Rattle.statements.specs.Books.{maskAt, maskOk};
+ghost use Rattle.statements.specs.Books.{maskAt, maskOk, masksOf, unionOf};
 
 // The number of a low and a high byte.
 fn pair(low: u8, high: u8) -> u16
@@ -47,6 +47,19 @@ pub fn mask_at(masks: &[u8], k: u8) -> u32
 {
     let at = 4 * (k as usize);
     (word_at(masks, at) as u32) + 65536 * (word_at(masks, at + 2) as u32)
+}
+
+// All moves that a mask of a list of them names. Bytes past the last whole mask are left aside.
+pub fn union(masks: &[u8]) -> u32
+    ensures { λ r. ⌜ r ≡ unionOf (masksOf (now (masks .entry))) ⌝ }
+{
+    let mut all: u32 = 0;
+    let mut at = 0;
+    while 4 <= masks.len() - at {
+        all = all | mask_at(&masks[at..], 0);
+        at += 4;
+    }
+    all
 }
 
 // A mask has no bit at the number of moves or above.

@@ -2,10 +2,11 @@
 // include/planbook.h says the same in C.
 ghost use mathlib.Core.Path.{_≡_};
 ghost use Rattle.statements.specs.Sets.{pick};
-ghost use Rattle.books.specs.Says.{MakeSays, WithdrawSays, PreviewSays, MovesSays};
+ghost use Rattle.books.specs.Says.{MakeSays, WithdrawSays, WithdrawListSays, PreviewSays, MovesSays};
 ghost use Rattle.planbook_c.specs.Flat.{plain, plainCost, plainMask, AdviceSays, PartSays};
 
-// What make and withdraw answer: a refusal's number or 0, the book's length, the number of states dropped.
+// What make, withdraw and a list of withdrawals answer: a refusal's number or 0, the book's length, the number of
+// states dropped.
 #[repr(C)]
 pub struct Answer {
     pub number: u32,
@@ -88,6 +89,23 @@ pub extern "C" fn planbook_withdraw(
         (now (out .entry)) (now (out .exit)) (now (drops .entry)) (now (drops .exit)) (plain r) ⌝ }
 {
     flat(books::withdraw_moves(plant, book, mask, out, drops))
+}
+
+// Takes a plant, a book, a list of up to 16 masks of moves to withdraw, four bytes each, a book buffer and a drop
+// buffer. Writes the book that the single withdrawals in turn come to and, by rising number, the states kept at the
+// start and lost at the end; returns the book's length and how many they are.
+#[no_mangle]
+pub extern "C" fn planbook_withdraw_list(
+    plant: &[u8],
+    book: &[u8],
+    masks: &[u8],
+    out: &mut [u8],
+    drops: &mut [u8],
+) -> Answer
+    ensures { λ r. ⌜ WithdrawListSays (now (plant .entry)) (now (book .entry)) (now (masks .entry))
+        (now (out .entry)) (now (out .exit)) (now (drops .entry)) (now (drops .exit)) (plain r) ⌝ }
+{
+    flat(books::withdraw_list(plant, book, masks, out, drops))
 }
 
 // Takes a plant, a book, a mask of moves to withdraw and a drop buffer. Writes, by rising number, the states that the

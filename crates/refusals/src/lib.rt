@@ -3,10 +3,12 @@ use format::plant::book_long;
 use format::plant_fault;
 use format::word::mask_ok;
 use format::word::number;
+use format::word::union;
 use rows::book_fault;
 ghost use mathlib.Core.Path.{_≡_};
-ghost use Rattle.statements.specs.Plants.{plantOf};
-ghost use Rattle.statements.specs.Calls.{bookRoom, alike, makeFault, withdrawFault, consultFault, movesFault};
+ghost use Rattle.statements.specs.Plants.{firstOf, plantOf};
+ghost use Rattle.statements.specs.Calls.{maskFault, wholeMasks, bookRoom, roomFault, makeFault, alike, lentFault};
+ghost use Rattle.statements.specs.Calls.{withdrawFault, withdrawListFault, numberFault, consultFault, movesFault};
 
 // A book buffer is long enough for a plant's book.
 fn book_room(plant: &[u8], room: usize) -> bool
@@ -40,9 +42,9 @@ fn alike(plant: &[u8], book: &[u8]) -> bool
         & ((number(book, 1) == number(plant, 1)) & (number(book, 2) == number(plant, 2)))
 }
 
-// What withdraw returns for the lengths of a book buffer and a drop buffer: 1 to 7, or 0 when it is accepted.
-pub fn withdraw(plant: &[u8], book: &[u8], gone: u32, room: usize, drops: usize) -> u8
-    ensures { λ r. ⌜ r ≡ withdrawFault (now (plant .entry)) (now (book .entry)) gone room drops ⌝ }
+// What a call that is lent a plant and a book returns for these: 1 to 5, or 0 when they are accepted.
+fn lent(plant: &[u8], book: &[u8]) -> u8
+    ensures { λ r. ⌜ r ≡ lentFault (now (plant .entry)) (now (book .entry)) ⌝ }
 {
     let fault = plant_fault(plant);
     if fault != 0 {
@@ -52,9 +54,14 @@ pub fn withdraw(plant: &[u8], book: &[u8], gone: u32, room: usize, drops: usize)
     if (wrong == 4) | !alike(plant, book) {
         return 4;
     }
-    if wrong != 0 {
-        return wrong;
-    }
+    wrong
+}
+
+// What a withdrawal of moves returns for these and for the lengths of a book buffer and a drop buffer: 6, 7, or 0.
+fn given(plant: &[u8], gone: u32, room: usize, drops: usize) -> u8
+    ensures { λ r. ⌜ r ≡ firstOf (maskFault (plantOf (now (plant .entry))) gone)
+        (roomFault (plantOf (now (plant .entry))) room drops) ⌝ }
+{
     if !mask_ok(number(plant, 1) as u32, gone) {
         return 6;
     }
@@ -64,14 +71,44 @@ pub fn withdraw(plant: &[u8], book: &[u8], gone: u32, room: usize, drops: usize)
     0
 }
 
-// What a call on a book, a state and a goal returns: 4, 5, 8, or 0 when it is accepted.
-pub fn consult(book: &[u8], state: u32, goal: u32) -> u8
-    ensures { λ r. ⌜ r ≡ consultFault (now (book .entry)) state goal ⌝ }
+// What withdraw returns: 1 to 7, or 0 when it is accepted.
+pub fn withdraw(plant: &[u8], book: &[u8], gone: u32, room: usize, drops: usize) -> u8
+    ensures { λ r. ⌜ r ≡ withdrawFault (now (plant .entry)) (now (book .entry)) gone room drops ⌝ }
 {
-    let fault = book_fault(book);
+    let fault = lent(plant, book);
     if fault != 0 {
         return fault;
     }
+    given(plant, gone, room, drops)
+}
+
+// The bytes of up to 16 masks, none of them cut.
+fn whole_masks(masks: &[u8]) -> bool
+    ensures { λ r. ⌜ r ≡ wholeMasks (now (masks .entry)) ⌝ }
+{
+    (masks.len() % 4 == 0) & (masks.len() <= 64)
+}
+
+// What a list of withdrawals returns: 1 to 5, 9, 6, 7, or 0 when it is accepted. One of its masks has a bit at U or
+// above just when all of them joined do.
+pub fn withdraw_list(plant: &[u8], book: &[u8], masks: &[u8], room: usize, drops: usize) -> u8
+    ensures { λ r. ⌜ r
+        ≡ withdrawListFault (now (plant .entry)) (now (book .entry)) (now (masks .entry)) room drops ⌝ }
+{
+    let fault = lent(plant, book);
+    if fault != 0 {
+        return fault;
+    }
+    if !whole_masks(masks) {
+        return 9;
+    }
+    given(plant, union(masks), room, drops)
+}
+
+// What a call on a book returns for a state and a goal: 8, or 0.
+fn asked(book: &[u8], state: u32, goal: u32) -> u8
+    ensures { λ r. ⌜ r ≡ numberFault (now (book .entry)) state goal ⌝ }
+{
     let states = number(book, 0) as u32;
     let goals = number(book, 2) as u32;
     if (states <= state) | (goals <= goal) {
@@ -80,17 +117,24 @@ pub fn consult(book: &[u8], state: u32, goal: u32) -> u8
     0
 }
 
+// What consult returns: 4, 5, 8, or 0 when it is accepted.
+pub fn consult(book: &[u8], state: u32, goal: u32) -> u8
+    ensures { λ r. ⌜ r ≡ consultFault (now (book .entry)) state goal ⌝ }
+{
+    let fault = book_fault(book);
+    if fault != 0 {
+        return fault;
+    }
+    asked(book, state, goal)
+}
+
 // What the call for all good moves returns: 1 to 5, 8, or 0 when it is accepted.
 pub fn moves(plant: &[u8], book: &[u8], state: u32, goal: u32) -> u8
     ensures { λ r. ⌜ r ≡ movesFault (now (plant .entry)) (now (book .entry)) state goal ⌝ }
 {
-    let fault = plant_fault(plant);
+    let fault = lent(plant, book);
     if fault != 0 {
         return fault;
     }
-    let answer = consult(book, state, goal);
-    if (answer == 4) | !alike(plant, book) {
-        return 4;
-    }
-    answer
+    asked(book, state, goal)
 }

@@ -1,7 +1,7 @@
 -- The answer lies within the buffer, and one of 200,000 bytes has room for every answer. Assumes nothing.
 use mathlib.Core.Path.{_≡_}
 use mathlib.Core.Logic.{inl, inr}
-use mathlib.Core.Bool.{Bool, true, false, not}
+use mathlib.Core.Bool.{Bool, true, false, _&&_, not}
 use mathlib.Core.List.{List}
 use Prim.Native.Nat.{ℕ, zero, suc, _≤_}
 use native.Mathlib.Omega.{arith}
@@ -9,19 +9,18 @@ use lib.Dec.{eqb}
 use lib.ListN.{length}
 use borrow.Author.Tests.{leb-true, eqb-true}
 use Rattle.statements.specs.Plants.{Plant, plantOf, headOk, labelsOk, arrowsOk, firstOf, when, plantFault}
-use Rattle.statements.specs.Books.{maskAt, maskOk, lessMask, madeBook}
-use Rattle.sets.proofs.Tests.{decided}
+use Rattle.statements.specs.Books.{maskAt, maskOk, eachOk, lessMask, madeBook, unionOf}
+use Rattle.sets.proofs.Tests.{decided, and-left}
 use Rattle.decoding.proofs.Masks.{less-ok}
 use Rattle.decoding.proofs.Faults.{PlantOk, plant-ok}
 use Rattle.demands.proofs.Plants.{given-allowed}
 use Rattle.demands.proofs.Books.{is-book}
-use Rattle.demands.proofs.Afresh.{made-accepted, withdrawn-afresh}
+use Rattle.demands.proofs.Afresh.{made-accepted, in-turn-afresh}
 use Rattle.listing.specs.Text.{newline, listing, refusedText, badMasksText}
 use Rattle.listing.specs.Buffers.{hasRoom, placedLong}
 use Rattle.listing.proofs.Digits.{figure-few}
 use Rattle.listing.proofs.Texts.{text-most, listed}
-use Rattle.reply.specs.Reply.{plantPart, maskPart, masksOk, withdrawing, inTurn, outcomeText}
-use Rattle.reply.specs.Reply.{masksText, replyTo}
+use Rattle.reply.specs.Reply.{plantPart, maskPart, masksOk, otherMasks, inTurn, outcomeText, masksText, replyTo}
 
 -- what is written of a text lies within the buffer
 pub placed-within : (text o : List ℕ) {r : ℕ} → r ≡ placedLong text o → r ≤ length o
@@ -69,24 +68,17 @@ module _ (p : Plant) (ok : PlantOk p) where
       (text-most (madeBook p mask) (is-book (given-allowed p mask ok h) .bytes) accepted)
 
   module _ (m : List ℕ) where
-    -- what masks come to
-    withdrawing-most : (n k mask : ℕ) → maskOk (p .moves) mask ≡ true
-        → length (outcomeText (withdrawing p m n k (madeBook p mask))) ≤ 200000
-    unfolding withdrawing outcomeText
-    withdrawing-most zero k mask h = made-most mask h
-    withdrawing-most (suc n) k mask h =
-        elim (decided (maskOk (p .moves) (maskAt m k))) [
-          | inl e ↦ rw (e, withdrawing, withdrawn-afresh p ok mask h (maskAt m k))
-              (withdrawing-most n (suc k) (lessMask mask (maskAt m k)) (less-ok (p .moves) mask (maskAt m k) h))
-          | inr e ↦ rw (e, withdrawing) (refused-most 6 (omega arith))
-        ]
-
     -- the masks in turn
     in-turn-most : length (outcomeText (inTurn p m)) ≤ 200000
     unfolding inTurn outcomeText
     in-turn-most =
-        elim (decided (maskOk (p .moves) (maskAt m 0))) [
-          | inl e ↦ rw e (withdrawing-most _ 1 (maskAt m 0) e)
+        let first = maskAt m 0 in
+        let others = otherMasks m in
+        elim (decided (maskOk (p .moves) first && eachOk (p .moves) others)) [
+          | inl e ↦
+              let ok-first = and-left (maskOk (p .moves) first) _ e in
+              rw (e, in-turn-afresh p ok first ok-first others)
+              (made-most (lessMask first (unionOf others)) (less-ok (p .moves) first (unionOf others) ok-first))
           | inr e ↦ rw e (refused-most 6 (omega arith))
         ]
 

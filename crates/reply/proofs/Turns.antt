@@ -1,149 +1,116 @@
--- The masks in turn, one for each turn of the loop: what is left to withdraw from the book so far stands for the whole.
--- Assumes nothing.
-use mathlib.Core.Path.{_≡_, sym, ap, _∙_}
-use mathlib.Core.Logic.{inl, inr}
-use mathlib.Core.Bool.{true, false}
-use mathlib.Core.List.{List}
-use Prim.Native.Nat.{ℕ, suc, _+_, _-_, _/_, _≤_, _<_}
+-- The masks in turn come to one making: a bad mask shows in all of them joined, and good ones leave the moves of the
+-- first less those that the others name. Assumes nothing.
+use mathlib.Core.Path.{_≡_, refl, sym, ap, _∙_}
+use mathlib.Core.Bool.{true, false, _&&_}
+use mathlib.Core.List.{List, _∷_, append-nil}
+use Prim.Native.Nat.{ℕ, zero, suc, _-_, _/_, _%_, _≤_}
 use native.Mathlib.Omega.{arith}
-use native.Mathlib.Numerals.{add-one}
-use lib.ListN.{length}
-use borrow.Author.Tests.{ne-eqb, leb-true}
-use Rattle.statements.specs.Plants.{Plant, plantOf}
-use Rattle.statements.specs.Books.{maskAt, maskOk, madeBook, withdrawnBook}
-use Rattle.statements.specs.Calls.{maskFault}
-use Rattle.sets.proofs.Tests.{decided}
-use Rattle.sets.proofs.Tests.{and-iff}
+use lib.Bits.{bitAnd}
+use lib.ListN.{length, take, drop, length-drop}
+use lib.Seq.{take-length, drop-length}
+use borrow.Author.Tests.{leb-true, le-leb, eq-eqb, eqb-true, ne-eqb}
+use Rattle.statements.specs.Sets.{over}
+use Rattle.statements.specs.Plants.{Plant, firstOf, plantOf, allowed}
+use Rattle.statements.specs.Books.{bookLong, maskAt, maskOk, eachOk, lessMask, madeBook, masksOf, unionOf}
+use Rattle.statements.specs.Calls.{maskFault, bookRoom, toldOf}
+use Rattle.sets.proofs.Tests.{and-iff, and-left}
+use Rattle.decoding.proofs.Masks.{less-ok, union-ok}
+use Rattle.decoding.proofs.Faults.{plant-ok, make-told}
+use Rattle.demands.proofs.Afresh.{in-turn-afresh}
+use Rattle.demands.proofs.InTurn.{first-mask}
+use Rattle.format.proofs.Unions.{union-is}
 use Rattle.books.specs.declared.Answer.{Answer}
 use Rattle.books.specs.Says.{MakeSays}
-use Rattle.reply.specs.Reply.{masksOk, Outcome, refused, withdrawing, inTurn}
-use Rattle.reply.specs.Steps.{Ready, Standing, Stepped, cameTo}
-use Rattle.reply.proofs.Steps.{mask-fine, make-number, make-book}
+use Rattle.books.proofs.Made.{within-length}
+use Rattle.reply.specs.Reply.{masksOk, otherMasks, inTurn}
+use Rattle.reply.specs.Steps.{Ready, cameTo}
 
--- good masks are 1 to 16
-pub masks-few : (m : List ℕ) → masksOk m ≡ true → (1 ≤ length m / 4) × (length m / 4 ≤ 16)
+-- good masks are 1 to 16, and whole
+pub masks-few : (m : List ℕ) → masksOk m ≡ true → (4 ≤ length m) × (length m ≤ 64) × (length m % 4 ≡ 0)
 unfolding masksOk
-masks-few m h = let tests = simp and-iff at h in (omega (arith, leb-true), omega (arith, leb-true))
+masks-few m good =
+    let tests = simp and-iff at good in
+    (omega (arith, leb-true), omega (arith, leb-true), omega (arith, eqb-true))
 
--- what comes of a refusal
-pub came-refused : (r : ℕ) (b : List ℕ) → (r ≡ 0 → ⊥) → cameTo r b ≡ refused r
-unfolding cameTo
-came-refused r b h = rw (ne-eqb r 0 h)
+module _ (m : List ℕ) where
+  -- the part of the masks after the first names what the others name, also if there are none
+  pub others-union : unionOf (masksOf (take (length m - 4) (drop 4 m))) ≡ unionOf (otherMasks m)
+  unfolding otherMasks
+  others-union =
+      let count : (length m - 4) / 4 ≡ length m / 4 - 1 = omega arith in
+      let rest : take (length m - 4) (drop 4 m) ≡ drop 4 m = rw (← length-drop) (take-length (drop 4 m)) in
+      ap (λ (l : List ℕ). unionOf (masksOf l)) rest ∙ sym (union-is (drop 4 m)) ∙ rw (length-drop, count)
 
-module _ (p : Plant) where
-  -- a refused mask has 6
-  six : (mask : ℕ) → (maskFault p mask ≡ 0 → ⊥) → (maskOk (p .moves) mask ≡ false) × (maskFault p mask ≡ 6)
-  unfolding maskFault
-  six mask h =
-      elim (decided (maskOk (p .moves) mask)) [
-        | inl e ↦ absurd (h (rw e))
-        | inr e ↦ (e, rw e)
-      ]
+  module _ (good : masksOk m ≡ true) where
+    -- good masks are the first and the others
+    masks-are : masksOf m ≡ maskAt m 0 ∷ otherMasks m
+    unfolding otherMasks
+    masks-are =
+        let few = masks-few m good in
+        first-mask m (length m / 4 - 1) (ne-eqb (length m) 0 (λ z. omega arith)) (omega arith)
 
-  module _ (m : List ℕ) where
-    -- a mask that is not refused is withdrawn
-    goes : (n k : ℕ) (b : List ℕ) → maskFault p (maskAt m k) ≡ 0
-        → withdrawing p m (suc n) k b ≡ withdrawing p m n (suc k) (withdrawnBook p b (maskAt m k))
-    unfolding withdrawing
-    goes n k b h = rw (mask-fine p (maskAt m k) h, withdrawing)
+    -- all of them joined have moves below u alone just when each has
+    pub all-ok : (u : ℕ) → maskOk u (unionOf (masksOf m)) ≡ (maskOk u (maskAt m 0) && eachOk u (otherMasks m))
+    unfolding eachOk
+    all-ok u = union-ok u (masksOf m) ∙ ap (eachOk u) masks-are
 
-    -- a refused one ends it
-    stops : (n k : ℕ) (b : List ℕ) → (maskFault p (maskAt m k) ≡ 0 → ⊥)
-        → withdrawing p m (suc n) k b ≡ refused (maskFault p (maskAt m k))
-    unfolding withdrawing
-    stops n k b h = let e = six (maskAt m k) h in rw (e .1, e .0, withdrawing)
+-- no refusal after the first
+first-none : (n : ℕ) → firstOf n 0 ≡ n
+first-none zero = refl
+first-none (suc n) = refl
 
-    -- the first mask is refused
-    pub first-refused : (maskFault p (maskAt m 0) ≡ 0 → ⊥) → inTurn p m ≡ refused (maskFault p (maskAt m 0))
-    unfolding inTurn
-    first-refused h = let e = six (maskAt m 0) h in rw (e .0, e .1)
+-- bytes written over a buffer of just their length
+over-all : (xs o : List ℕ) → length o ≡ length xs → over xs o ≡ xs
+unfolding over
+over-all xs o e = rw (← e, drop-length o) (append-nil xs)
 
-    -- or makes, and the others withdraw
-    pub first-makes : maskFault p (maskAt m 0) ≡ 0
-        → inTurn p m ≡ withdrawing p m (length m / 4 - 1) 1 (madeBook p (maskAt m 0))
-    unfolding inTurn
-    first-makes h = rw (mask-fine p (maskAt m 0) h)
+-- the book of a making is as long as any book of the plant
+made-length : (p : Plant) (mask : ℕ) → length (madeBook p mask) ≡ bookLong (p .states) (p .goals)
+unfolding madeBook
+made-length p mask = within-length p mask (allowed p)
 
--- the first mask makes in buffers of just the book's length
-module _ {s b o d : List ℕ} (ready : Ready s b o d) (m : List ℕ) {mask : ℕ} {b′ : List ℕ} {r : Answer}
-    (at : mask ≡ maskAt m 0) (says : MakeSays s mask b b′ r) where
-  -- the number returned is that of mask 0
-  number-at-first : r .number ≡ maskFault (plantOf s) (maskAt m 0)
-  number-at-first = make-number ready mask says ∙ ap (maskFault (plantOf s)) at
+module _ {s b : List ℕ} (ready : Ready s b) (m : List ℕ) (good : masksOk m ≡ true) where
+  -- one mask is bad
+  pub turned-refused : (any : List ℕ) → maskOk (plantOf s .moves) (unionOf (masksOf m)) ≡ false
+      → inTurn (plantOf s) m ≡ cameTo 6 any
+  unfolding inTurn cameTo
+  turned-refused any bad = rw (← all-ok m good, bad)
 
-  -- it is refused
-  pub made-refused : (r .number ≡ 0 → ⊥) → inTurn (plantOf s) m ≡ cameTo (r .number) b′
-  made-refused h =
-      first-refused (plantOf s) m (λ e. h (number-at-first ∙ e)) ∙ ap refused (sym number-at-first) ∙
-      sym (came-refused (r .number) b′ h)
+  -- all are good: a making with the moves of the first less those that the others name
+  module _ (fine : maskOk (plantOf s .moves) (unionOf (masksOf m)) ≡ true) {first gone : ℕ}
+      (is-first : first ≡ maskAt m 0) (is-gone : gone ≡ unionOf (masksOf (take (length m - 4) (drop 4 m))))
+      {b′ : List ℕ} {r : Answer} (says : MakeSays s (first - bitAnd first gone) b b′ r) where
+    both : (maskOk (plantOf s .moves) (maskAt m 0) && eachOk (plantOf s .moves) (otherMasks m)) ≡ true
+    both = sym (all-ok m good (plantOf s .moves)) ∙ fine
 
-  -- or the others withdraw from what it made
-  pub made-goes : r .number ≡ 0 → inTurn (plantOf s) m ≡ withdrawing (plantOf s) m (length m / 4 - 1) 1 b′
-  made-goes h =
-      first-makes (plantOf s) m (sym number-at-first ∙ h) ∙
-      ap (withdrawing (plantOf s) m (length m / 4 - 1) 1)
-      (ap (madeBook (plantOf s)) (sym at) ∙ sym (make-book ready mask says h))
+    first-ok : maskOk (plantOf s .moves) (maskAt m 0) ≡ true
+    first-ok = and-left (maskOk (plantOf s .moves) (maskAt m 0)) _ both
 
--- before mask k: the masks from it on, withdrawn from the book that stands now, come to what all come to
-pub record Going (s m first : List ℕ) (count k : ℕ) (b o d : List ℕ) : Type 0 where
-  pub standing : Standing s b o d
-  pub count-is : count ≡ length m / 4
-  pub few : count ≤ 16
-  pub within : k ≤ count
-  pub same : withdrawing (plantOf s) m (length m / 4 - 1) 1 first ≡ withdrawing (plantOf s) m (count - k) k b
+    -- the moves in service
+    abbrev Left : ℕ
+    Left = lessMask (maskAt m 0) (unionOf (otherMasks m))
 
--- before the loop
-pub going-start : {s b o d : List ℕ} (m : List ℕ) (count : ℕ) → masksOk m ≡ true → Standing s b o d
-    → count ≡ length m / 4 → Going s m b count 1 b o d
-going-start {s} {b} m count good st e =
-    let few = masks-few m good in
-    record {
-      standing = st;
-      count-is = e;
-      few = omega arith;
-      within = omega arith;
-      same = rw (← e);
-    }
+    left-is : first - bitAnd first gone ≡ Left
+    unfolding lessMask
+    left-is = rw (is-first, is-gone, others-union m)
 
-module _ {s m first : List ℕ} {count k : ℕ} {b o d : List ℕ} (g : Going s m first count k b o d) where
-  module _ (more : k < count) where
-    -- what all the masks after the first come to
-    abbrev Whole : Outcome
-    Whole = withdrawing (plantOf s) m (length m / 4 - 1) 1 first
+    -- it is accepted
+    accepted : r .number ≡ 0
+    unfolding toldOf maskFault bookRoom
+    accepted =
+        let p = plantOf s in
+        let left-ok : maskOk (p .moves) (first - bitAnd first gone) ≡ true =
+        rw left-is (less-ok (p .moves) (maskAt m 0) (unionOf (otherMasks m)) first-ok) in
+        says .number
+        ∙ make-told s (first - bitAnd first gone) (length b) (ready .plant)
+        ∙ rw (left-ok, le-leb (bookLong (p .states) (p .goals)) (length b) (omega (arith, ready .long)))
 
-    -- mask k is the next
-    next : Whole ≡ withdrawing (plantOf s) m (suc (count - suc k)) k b
-    next =
-        let e : count - k ≡ suc (count - suc k) = omega arith in
-        g .same ∙ ap (λ (n : ℕ). withdrawing (plantOf s) m n k b) e
-
-    module _ {gone r : ℕ} {b′ o′ d′ : List ℕ} (mask : gone ≡ maskAt m k) (step : Stepped s gone b r b′ o′ d′) where
-      -- the number returned is that of mask k
-      number-at : r ≡ maskFault (plantOf s) (maskAt m k)
-      number-at = step .number ∙ ap (maskFault (plantOf s)) mask
-
-      -- it is refused
-      pub going-refused : (r ≡ 0 → ⊥) → Whole ≡ cameTo r b′
-      going-refused h =
-          let no : maskFault (plantOf s) (maskAt m k) ≡ 0 → ⊥ = λ e. h (number-at ∙ e) in
-          next ∙ stops (plantOf s) m (count - suc k) k b no ∙ ap refused (sym number-at) ∙ sym (came-refused r b′ h)
-
-      -- it is withdrawn
-      pub going-more : r ≡ 0 → Going s m first count (k + 1) b′ o′ d′
-      going-more h =
-          record {
-            standing = step .standing h;
-            count-is = g .count-is;
-            few = g .few;
-            within = omega arith;
-            same =
-                next ∙ goes (plantOf s) m (count - suc k) k b (sym number-at ∙ h) ∙
-                rw (add-one, step .book h, mask);
-          }
-
-  -- after the last mask
-  pub going-end : count ≤ k → withdrawing (plantOf s) m (length m / 4 - 1) 1 first ≡ cameTo 0 b
-  unfolding withdrawing cameTo
-  going-end h =
-      let e : count - k ≡ 0 = omega arith in
-      g .same ∙ ap (λ (n : ℕ). withdrawing (plantOf s) m n k b) e
+    -- and leaves the book of the withdrawals in turn
+    pub turned-made : inTurn (plantOf s) m ≡ cameTo (r .number) b′
+    unfolding inTurn cameTo
+    turned-made =
+        let p = plantOf s in
+        let wrote : b′ ≡ madeBook p Left =
+        (rw (eq-eqb (r .number) 0 accepted, left-is) at (says .book))
+        ∙ over-all (madeBook p Left) b (ready .long ∙ sym (made-length p Left)) in
+        rw (both, accepted, wrote, in-turn-afresh p (plant-ok s (ready .plant)) (maskAt m 0) first-ok (otherMasks m))

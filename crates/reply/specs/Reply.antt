@@ -1,13 +1,13 @@
 -- What `planbook` answers, as a function from the bytes it reads to the bytes it prints. The input is a plant and then
 -- 1 to 16 four-byte masks; the first makes a book, the others withdraw from it in turn.
-use mathlib.Core.Bool.{Bool, true, false, _&&_}
+use mathlib.Core.Bool.{Bool, _&&_}
 use mathlib.Core.List.{List}
-use Prim.Native.Nat.{ℕ, zero, suc, _-_, _/_, _%_}
+use Prim.Native.Nat.{ℕ, _-_, _/_, _%_}
 use lib.Dec.{eqb, leb}
 use lib.ListN.{length, take, drop}
 use Rattle.statements.specs.Sets.{pick}
 use Rattle.statements.specs.Plants.{word, Plant, plantOf, plantFault}
-use Rattle.statements.specs.Books.{maskAt, maskOk, lessMask, madeBook, withdrawnBook}
+use Rattle.statements.specs.Books.{maskAt, maskOk, eachOk, lessMask, madeBook, masksIn, unionOf, withdrawnInTurn}
 use Rattle.listing.specs.Text.{listing, refusedText, badMasksText}
 
 -- the plant's bytes: they end where the header's total length says
@@ -27,19 +27,15 @@ pub data Outcome : Type 0 where
   refused : ℕ → Outcome
   lists : List ℕ → Outcome
 
--- n masks from mask k on withdrawn in turn from a book; one with a bit at U or above is refused with 6, and ends it
-unfoldable pub withdrawing : Plant → List ℕ → ℕ → ℕ → List ℕ → Outcome
-withdrawing p m zero k b = lists b
-withdrawing p m (suc n) k b =
-    elim (maskOk (p .moves) (maskAt m k)) [
-      | true ↦ withdrawing p m n (suc k) (withdrawnBook p b (maskAt m k))
-      | false ↦ refused 6
-    ]
+-- the masks after the first
+unfoldable pub otherMasks : List ℕ → List ℕ
+otherMasks m = masksIn (length m / 4 - 1) (drop 4 m)
 
--- the masks in turn: the first makes, the others withdraw
+-- the masks in turn: the first makes, the others withdraw; one with a bit at U or above is refused with 6
 unfoldable pub inTurn : Plant → List ℕ → Outcome
 inTurn p m =
-    pick (maskOk (p .moves) (maskAt m 0)) (withdrawing p m (length m / 4 - 1) 1 (madeBook p (maskAt m 0))) (refused 6)
+    pick (maskOk (p .moves) (maskAt m 0) && eachOk (p .moves) (otherMasks m))
+    (lists (withdrawnInTurn p (madeBook p (maskAt m 0)) (otherMasks m))) (refused 6)
 
 -- the text of an outcome
 unfoldable pub outcomeText : Outcome → List ℕ
@@ -56,11 +52,6 @@ replyTo input =
     let s = plantPart input in
     pick (eqb (plantFault s) 0) (masksText (plantOf s) (maskPart input)) (refusedText (plantFault s))
 
--- a mask less n masks from mask k on, in turn
-unfoldable pub leftOf : List ℕ → ℕ → ℕ → ℕ → ℕ
-leftOf m zero k mask = mask
-leftOf m (suc n) k mask = leftOf m n (suc k) (lessMask mask (maskAt m k))
-
 -- the moves in service after all the masks, told from them alone
 unfoldable pub servedBy : List ℕ → ℕ
-servedBy m = leftOf m (length m / 4 - 1) 1 (maskAt m 0)
+servedBy m = lessMask (maskAt m 0) (unionOf (otherMasks m))

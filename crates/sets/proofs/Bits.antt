@@ -86,6 +86,17 @@ same-bits (suc n) a b ha hb same =
     low-test (a % 2) (omega arith) ∙ ap (λ (t : Bool). pick t 1 0) tests ∙ sym (low-test (b % 2) (omega arith)) in
     omega (arith, half, low-same)
 
+-- a number is below the power of 2 that it is the exponent of
+below-power : (n : ℕ) → n < 2 ^ n
+below-power zero = omega arith
+below-power (suc n) = omega (arith, below-power n, pow-succ' 2 n)
+
+-- without a bound
+pub all-bits : (a b : ℕ) → ((u : ℕ) → bit u a ≡ bit u b) → a ≡ b
+all-bits a b same =
+    let above = below-power (a + b) in
+    same-bits (a + b) a b (omega arith) (omega arith) (λ u h. same u)
+
 -- the lowest of a test's mask is the first at which the test holds
 pub lowest-bits : (n : ℕ) (test : ℕ → Bool) → lowest n (bits n 0 test) ≡ first n 0 test
 unfolding lowest
@@ -111,6 +122,18 @@ or-bit zero a b =
     rw (bit-zero (bitOr a b), bit-zero a, bit-zero b, or-low-half a b .0) (low-is (eqb (a % 2) 1 || eqb (b % 2) 1))
 or-bit (suc u) a b =
     rw (bit-suc u (bitOr a b), bit-suc u a, bit-suc u b, or-low-half a b .1) (or-bit u (a / 2) (b / 2))
+
+-- masks joined in either grouping
+pub or-assoc : (a b c : ℕ) → bitOr (bitOr a b) c ≡ bitOr a (bitOr b c)
+or-assoc a b c =
+    all-bits (bitOr (bitOr a b) c) (bitOr a (bitOr b c))
+    (λ u.
+    rw (or-bit u (bitOr a b) c, or-bit u a b, or-bit u a (bitOr b c), or-bit u b c)
+    (one-or-other (bit u a) (bit u b) (bit u c)))
+  where
+    one-or-other : (s t v : Bool) → ((s || t) || v) ≡ (s || (t || v))
+    one-or-other true t v = refl
+    one-or-other false t v = refl
 
 pub one-bit : (u k : ℕ) → bit u (2 ^ k) ≡ eqb u k
 one-bit zero zero = bit-zero 1

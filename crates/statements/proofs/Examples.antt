@@ -9,18 +9,20 @@ use Rattle.statements.specs.Kept.{nearer, listedMove}
 use Rattle.statements.specs.Books.{two, bytesOf, bookLong, entryOf, rowOf, headOf, bookBytes, bookStates}
 use Rattle.statements.specs.Books.{bookMoves}
 use Rattle.statements.specs.Books.{bookGoals, bookCount, bookMask, waitAt, moveAt, isLost, isHeld, bookKept}
-use Rattle.statements.specs.Books.{maskOk, bookHeadOk, rowsOk, bookFault, goalAfter, served, passes}
-use Rattle.statements.specs.Books.{arrive, nearerIn, goodMoves, lessMask, bookWithin}
-use Rattle.statements.specs.Books.{madeBook, keptBefore, withdrawnBook, droppedStates}
-use Rattle.statements.specs.Calls.{maskFault, bookRoom, dropRoom, makeFault, alike, lentFault, withdrawFault}
-use Rattle.statements.specs.Calls.{previewFault, consultFault, movesFault, rowPart, answerOf, writtenBy}
+use Rattle.statements.specs.Books.{maskAt, maskOk, eachOk, bookHeadOk, rowsOk, bookFault, goalAfter, served}
+use Rattle.statements.specs.Books.{passes, arrive, nearerIn, goodMoves, lessMask, bookWithin}
+use Rattle.statements.specs.Books.{madeBook, keptBefore, withdrawnBook, masksIn, masksOf, withdrawnInTurn}
+use Rattle.statements.specs.Books.{withdrawnList, droppedStates}
+use Rattle.statements.specs.Calls.{maskFault, wholeMasks, masksFault, bookRoom, dropRoom, roomFault, makeFault}
+use Rattle.statements.specs.Calls.{alike, lentFault, withdrawFault, withdrawListFault, previewFault, numberFault}
+use Rattle.statements.specs.Calls.{consultFault, movesFault, rowPart, answerOf, writtenBy}
 use Rattle.statements.specs.Calls.{standingAfter, standing, answers, toldOf, told, putBy, inService}
 use Rattle.statements.specs.Marked.{plantP, plantStill, plantLoop, plantMay, plantEnd, bookP, lostRow}
 use Rattle.statements.specs.Marked.{bookM1, bookM2, bookM9, bookBoth, bookBoth9, bookThree, allLost, Marked}
-use Rattle.statements.specs.Marked.{Marked-arrivals, Marked-moves, Marked-previews}
+use Rattle.statements.specs.Marked.{fifteen, Marked-arrivals, Marked-moves, Marked-previews, Marked-lists}
 
 pub marked : Marked
-unfolding bit numbers every first joined iterate isIn allIn filter word words arrowsFrom plantOf headOk labelsOk rank arrowsOk plantFault allowed inGoal endsIn ends available goesInto moveInto can grown target forced forcedAll keptRound keptWithin level waitOf nearer listedMove two bookLong entryOf rowOf headOf bookBytes bookStates bookMoves bookGoals bookCount bookMask waitAt moveAt isLost isHeld bookKept maskOk bookHeadOk rowsOk bookFault goalAfter served passes arrive lessMask bookWithin madeBook keptBefore withdrawnBook droppedStates maskFault bookRoom dropRoom makeFault alike lentFault withdrawFault consultFault rowPart answerOf writtenBy standingAfter standing answers toldOf told putBy inService bytesOf plantP plantStill plantLoop plantMay plantEnd bookP lostRow bookM1 bookM2 bookM9 allLost
+unfolding bit numbers every first joined iterate isIn allIn filter word words arrowsFrom plantOf headOk labelsOk rank arrowsOk plantFault allowed inGoal endsIn ends available goesInto moveInto can grown target forced forcedAll keptRound keptWithin level waitOf nearer listedMove two bookLong entryOf rowOf headOf bookBytes bookStates bookMoves bookGoals bookCount bookMask waitAt moveAt isLost isHeld bookKept maskOk bookHeadOk rowsOk bookFault goalAfter served passes arrive lessMask bookWithin madeBook keptBefore withdrawnBook droppedStates maskFault bookRoom dropRoom roomFault makeFault alike lentFault withdrawFault numberFault consultFault rowPart answerOf writtenBy standingAfter standing answers toldOf told putBy inService bytesOf plantP plantStill plantLoop plantMay plantEnd bookP lostRow bookM1 bookM2 bookM9 allLost
 marked =
     record {
       m1 = record { accepted = refl; short = refl; book = refl };
@@ -38,7 +40,7 @@ marked =
     }
 
 pub marked-arrivals : Marked-arrivals
-unfolding bit numbers every first filter word two bookLong bookStates bookMoves bookGoals bookCount bookMask waitAt moveAt isLost isHeld bookKept maskOk bookHeadOk rowsOk bookFault goalAfter served passes arrive consultFault bytesOf bookThree
+unfolding bit numbers every first filter word two bookLong bookStates bookMoves bookGoals bookCount bookMask waitAt moveAt isLost isHeld bookKept maskOk bookHeadOk rowsOk bookFault goalAfter served passes arrive numberFault consultFault bytesOf bookThree
 marked-arrivals =
     record {
       none = record { accepted = refl; move-is = refl; wait-is = refl; seek-is = refl };
@@ -54,7 +56,7 @@ marked-arrivals =
     }
 
 pub marked-moves : Marked-moves
-unfolding bit numbers every first isIn allIn filter bits word words arrowsFrom plantOf headOk labelsOk rank arrowsOk plantFault endsIn ends available goesInto movesInto two bookLong bookStates bookMoves bookGoals bookCount bookMask waitAt moveAt isLost isHeld bookKept maskOk bookHeadOk rowsOk bookFault goalAfter served passes arrive nearerIn goodMoves alike consultFault movesFault bytesOf plantP plantMay bookP lostRow bookM1 bookM2 bookM9 bookBoth bookBoth9
+unfolding bit numbers every first isIn allIn filter bits word words arrowsFrom plantOf headOk labelsOk rank arrowsOk plantFault endsIn ends available goesInto movesInto two bookLong bookStates bookMoves bookGoals bookCount bookMask waitAt moveAt isLost isHeld bookKept maskOk bookHeadOk rowsOk bookFault goalAfter served passes arrive nearerIn goodMoves alike lentFault numberFault movesFault bytesOf plantP plantMay bookP lostRow bookM1 bookM2 bookM9 bookBoth bookBoth9
 marked-moves =
     record {
       on-the-way = record { accepted = refl; moves-are = refl };
@@ -79,5 +81,23 @@ marked-previews =
       all = record { accepted = refl; short = refl; drops-are = refl; kept-is = refl };
       not-made = record { accepted = refl; short = refl; drops-are = refl; kept-is = refl };
       no-move = refl;
+      unlike = refl;
+    }
+
+pub marked-lists : Marked-lists
+unfolding bit numbers every first joined iterate isIn allIn filter word words arrowsFrom plantOf headOk labelsOk rank arrowsOk plantFault allowed inGoal endsIn ends available goesInto moveInto can grown target forced forcedAll keptRound keptWithin level waitOf nearer listedMove two bookLong entryOf rowOf headOf bookBytes bookStates bookMoves bookGoals bookCount bookMask waitAt moveAt isLost isHeld bookKept maskAt maskOk eachOk bookHeadOk rowsOk bookFault lessMask bookWithin keptBefore withdrawnBook masksIn masksOf withdrawnInTurn withdrawnList droppedStates wholeMasks masksFault bookRoom dropRoom roomFault alike lentFault withdrawListFault bytesOf plantP plantMay bookP lostRow bookM1 bookM2 bookM9 allLost fifteen
+marked-lists =
+    record {
+      two-masks = record { accepted = refl; short-book = refl; short-drops = refl; book = refl; drops = refl };
+      all = record { accepted = refl; short-book = refl; short-drops = refl; book = refl; drops = refl };
+      twice = record { accepted = refl; short-book = refl; short-drops = refl; book = refl; drops = refl };
+      none = record { accepted = refl; short-book = refl; short-drops = refl; book = refl; drops = refl };
+      zero-mask = record { accepted = refl; short-book = refl; short-drops = refl; book = refl; drops = refl };
+      not-made = record { accepted = refl; short-book = refl; short-drops = refl; book = refl; drops = refl };
+      most = record { accepted = refl; short-book = refl; short-drops = refl; book = refl; drops = refl };
+      too-many = refl;
+      cut = refl;
+      first-bad = refl;
+      last-bad = refl;
       unlike = refl;
     }

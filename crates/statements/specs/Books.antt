@@ -1,10 +1,10 @@
 -- A control book (a strategy table): its bytes, what is read from any book's bytes, and refusals 4 and 5.
-use mathlib.Core.Bool.{Bool, _&&_, _||_, not}
+use mathlib.Core.Bool.{Bool, true, _&&_, _||_, not}
 use mathlib.Core.List.{List, [], _∷_, _++_}
-use Prim.Native.Nat.{ℕ, _+_, _-_, _*_, _/_, _%_, _^_}
+use Prim.Native.Nat.{ℕ, zero, suc, _+_, _-_, _*_, _/_, _%_, _^_}
 use lib.Dec.{eqb, ltb, leb}
 use lib.ListN.{length, drop}
-use lib.Bits.{bitAnd}
+use lib.Bits.{bitAnd, bitOr}
 use Rattle.statements.specs.Sets.{pick, bit, numbers, every, first, joined, isIn, filter}
 use Rattle.statements.specs.Plants.{word, firstOf, when, Plant, allowed, movesInto}
 use Rattle.statements.specs.Kept.{keptWithin, waitOf, listedMove}
@@ -87,9 +87,13 @@ isHeld b x =
 unfoldable pub bookKept : List ℕ → List ℕ
 bookKept b = filter (λ x. not (isLost b x)) (numbers (bookStates b) 0)
 
--- no bit of a mask at u or above
+-- no bit of a mask at u or above; the same of each mask of a list
 unfoldable pub maskOk : ℕ → ℕ → Bool
 maskOk u mask = ltb mask (2 ^ u)
+
+unfoldable pub eachOk : ℕ → List ℕ → Bool
+eachOk u [] = true
+eachOk u (mask ∷ more) = maskOk u mask && eachOk u more
 
 unfoldable pub bookHeadOk : List ℕ → Bool
 bookHeadOk b =
@@ -154,6 +158,29 @@ keptBefore p b x = allowed p x && not (isLost b x)
 
 unfoldable pub withdrawnBook : Plant → List ℕ → ℕ → List ℕ
 withdrawnBook p b gone = bookWithin p (lessMask (bookMask b) gone) (keptBefore p b)
+
+-- the masks of a list of them: its first n masks, four bytes each; as many as it has, an empty list acting as one mask
+-- of 0
+unfoldable pub masksIn : ℕ → List ℕ → List ℕ
+masksIn zero m = []
+masksIn (suc n) m = maskAt m 0 ∷ masksIn n (drop 4 m)
+
+unfoldable pub masksOf : List ℕ → List ℕ
+masksOf m = pick (eqb (length m) 0) (0 ∷ []) (masksIn (length m / 4) m)
+
+-- all moves that a mask of a list names (the union)
+unfoldable pub unionOf : List ℕ → ℕ
+unionOf [] = 0
+unionOf (gone ∷ more) = bitOr gone (unionOf more)
+
+-- the last book of single withdrawals made in turn, each from the book of the one before
+unfoldable pub withdrawnInTurn : Plant → List ℕ → List ℕ → List ℕ
+withdrawnInTurn p b [] = b
+withdrawnInTurn p b (gone ∷ more) = withdrawnInTurn p (withdrawnBook p b gone) more
+
+-- the book of a list of withdrawals: that of its single ones in turn
+unfoldable pub withdrawnList : Plant → List ℕ → List ℕ → List ℕ
+withdrawnList p b m = withdrawnInTurn p b (masksOf m)
 
 -- the states kept in one book and lost in another, rising
 unfoldable pub droppedStates : List ℕ → List ℕ → List ℕ

@@ -1,5 +1,6 @@
--- Demands 2 and 3, and what requests (i), (ii), (iv) and (v) say of the books written, of drop lists and of the goals
--- sought, stated: these records are what the product claims of its books. The proofs are in crate demands.
+-- Demands 2 and 3, and what requests (i), (ii), (iv), (v) and (vi) say of the books written, of drop lists, of the
+-- goals sought and of lists of withdrawals, stated: these records are what the product claims of its books. The proofs
+-- are in crate demands.
 use mathlib.Core.Path.{_≡_}
 use mathlib.Core.Logic.{_↔_}
 use mathlib.Core.Bool.{true, false}
@@ -10,8 +11,10 @@ use Rattle.statements.specs.Sets.{bit, lowest, isIn}
 use Rattle.statements.specs.Plants.{word, Plant, plantOf, allowed, ends, available}
 use Rattle.statements.specs.Books.{bookLong, bookStates, bookMoves, bookGoals, bookCount, bookMask, waitAt}
 use Rattle.statements.specs.Books.{moveAt, isLost, bookKept, bookFault, goalAfter, passes, arrive, goodMoves}
-use Rattle.statements.specs.Books.{lessMask, keptBefore, madeBook, withdrawnBook, droppedStates}
-use Rattle.statements.specs.Calls.{makeFault, withdrawFault, Call, standing, answers, told, inService}
+use Rattle.statements.specs.Books.{lessMask, keptBefore, madeBook, withdrawnBook, masksOf, unionOf}
+use Rattle.statements.specs.Books.{withdrawnList, droppedStates}
+use Rattle.statements.specs.Calls.{makeFault, withdrawFault, withdrawListFault, Call, standing, answers, told}
+use Rattle.statements.specs.Calls.{inService, singles}
 use Rattle.statements.specs.Strategies.{Wins-by, Wins, Forces, following, Picks, Serves}
 
 -- move u is available in x, and all its arrows end in states with a property
@@ -124,6 +127,35 @@ pub record Demand-2 : Type 0 where
   -- the states dropped and those still kept are together those kept before
   pub adds-up : (s b : List ℕ) (gone room drops : ℕ) → withdrawFault s b gone room drops ≡ 0 →
       let after = withdrawnBook (plantOf s) b gone in
+      length (droppedStates b after) + bookCount after ≡ bookCount b
+
+-- request (vi), of any list of withdrawals that is accepted, from any book, also one that nobody made
+pub record In-turn : Type 0 where
+  -- each of its single withdrawals would be accepted in turn
+  pub each-accepted : (s b masks : List ℕ) (room drops : ℕ) → withdrawListFault s b masks room drops ≡ 0 →
+      (number : ℕ) → isIn number (answers s b (singles (masksOf masks) room drops)) ≡ true → number ≡ 0
+  -- and the book that then stands is that of the list
+  pub stands : (s b masks : List ℕ) (room drops : ℕ) → withdrawListFault s b masks room drops ≡ 0 →
+      standing s b (singles (masksOf masks) room drops) ≡ withdrawnList (plantOf s) b masks
+  -- one withdrawal of all moves that its masks name would be accepted, and gives the same book
+  pub at-once : (s b masks : List ℕ) (room drops : ℕ) → withdrawListFault s b masks room drops ≡ 0 →
+      let gone = unionOf (masksOf masks) in
+      (withdrawFault s b gone room drops ≡ 0) × (withdrawnList (plantOf s) b masks ≡ withdrawnBook (plantOf s) b gone)
+  -- those are the moves that one of them names
+  pub named : (masks : List ℕ) (u : ℕ) →
+      (bit u (unionOf masks) ≡ true) ↔ ((gone : ℕ) × (isIn gone masks ≡ true) × (bit u gone ≡ true))
+  -- so that demand 2 and requests (i) and (v) hold of the book
+  pub right : (s b masks : List ℕ) (room drops : ℕ) → withdrawListFault s b masks room drops ≡ 0 →
+      Right (plantOf s) (lessMask (bookMask b) (unionOf (masksOf masks))) (KeptBefore (plantOf s) b)
+      (withdrawnList (plantOf s) b masks)
+  -- the drop list, which rises as every one does: the states kept at the start and lost at the end
+  pub dropped : (s b masks : List ℕ) (room drops : ℕ) → withdrawListFault s b masks room drops ≡ 0 → (x : ℕ) →
+      let after = withdrawnList (plantOf s) b masks in
+      (isIn x (droppedStates b after) ≡ true) ↔
+      ((x < plantOf s .states) × (isLost b x ≡ false) × (isLost after x ≡ true))
+  -- these and those still kept are together those kept at the start
+  pub adds-up : (s b masks : List ℕ) (room drops : ℕ) → withdrawListFault s b masks room drops ≡ 0 →
+      let after = withdrawnList (plantOf s) b masks in
       length (droppedStates b after) + bookCount after ≡ bookCount b
 
 -- demand 3: after any list of calls that follows an accepted make

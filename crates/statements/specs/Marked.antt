@@ -1,12 +1,13 @@
 -- The marked examples M1 to M11 of document 01 as one table, with M10 as request (v) has it, and one each for requests
--- (i), (iv) and (v). Plants and books are written as their two-byte numbers.
+-- (i), (iv), (v) and (vi). Plants and books are written as their two-byte numbers, and so are lists of masks.
 use mathlib.Core.Path.{_≡_}
 use mathlib.Core.List.{List, [], _∷_, _++_}
 use Prim.Native.Nat.{ℕ, _-_}
 use Rattle.statements.specs.Plants.{plantOf}
 use Rattle.statements.specs.Books.{bytesOf, bookCount, waitAt, moveAt, arrive, goodMoves, madeBook}
-use Rattle.statements.specs.Books.{withdrawnBook, droppedStates}
-use Rattle.statements.specs.Calls.{makeFault, withdrawFault, previewFault, consultFault, movesFault}
+use Rattle.statements.specs.Books.{withdrawnBook, withdrawnList, droppedStates}
+use Rattle.statements.specs.Calls.{makeFault, withdrawFault, withdrawListFault, previewFault, consultFault}
+use Rattle.statements.specs.Calls.{movesFault}
 
 -- strip plant P: header, labels 3 1 5 0, then the eight arrows
 unfoldable pub plantP : List ℕ
@@ -156,3 +157,40 @@ pub record Marked-previews : Type 0 where
   -- refused: a mask with a move past the last, before it a book for another plant, both before a short buffer
   pub no-move : previewFault plantP bookM1 8 7 ≡ 6
   pub unlike : previewFault plantMay bookM1 8 7 ≡ 4
+
+-- withdrawing a list of masks from a book for P is accepted with buffers of just their lengths, gives this book and
+-- drops these
+pub record Withdraws-list (b masks after dropped : List ℕ) : Type 0 where
+  pub accepted : withdrawListFault plantP b (bytesOf masks) 48 8 ≡ 0
+  pub short-book : withdrawListFault plantP b (bytesOf masks) 47 8 ≡ 7
+  pub short-drops : withdrawListFault plantP b (bytesOf masks) 48 7 ≡ 7
+  pub book : withdrawnList (plantOf plantP) b (bytesOf masks) ≡ after
+  pub drops : droppedStates b after ≡ dropped
+
+-- a list of 15 masks of 0
+unfoldable pub fifteen : List ℕ
+fifteen =
+    0 ∷ 0 ∷ 0 ∷ 0 ∷ 0 ∷ 0 ∷ 0 ∷ 0 ∷ 0 ∷ 0 ∷ 0 ∷ 0 ∷ 0 ∷ 0 ∷ 0 ∷ 0 ∷ 0 ∷ 0 ∷ 0 ∷ 0 ∷ 0 ∷ 0 ∷ 0 ∷ 0 ∷ 0 ∷ 0 ∷ 0 ∷ 0 ∷
+    0 ∷ 0 ∷ []
+
+pub record Marked-lists : Type 0 where
+  -- moves 1 and 2: the rows of M2, and none dropped
+  pub two-masks : Withdraws-list bookM1 (2 ∷ 0 ∷ 4 ∷ 0 ∷ [])
+      (bookP 3 1 (0 ∷ 0 ∷ 2 ∷ 0 ∷ 2 ∷ 0 ∷ 1 ∷ 0 ∷ 1 ∷ 0 ∷ 0 ∷ 0 ∷ lostRow)) []
+  -- move 2, and then move 0: all lost, and the list from the start on
+  pub all : Withdraws-list bookM1 (4 ∷ 0 ∷ 1 ∷ 0 ∷ []) (allLost 2) (0 ∷ 1 ∷ 2 ∷ [])
+  -- a move named twice
+  pub twice : Withdraws-list bookM1 (4 ∷ 0 ∷ 4 ∷ 0 ∷ []) bookM2 []
+  -- an empty list, and one mask of 0: the book of a making stays, and one that nobody made need not
+  pub none : Withdraws-list bookM1 [] bookM1 []
+  pub zero-mask : Withdraws-list bookM1 (0 ∷ 0 ∷ []) bookM1 []
+  pub not-made : Withdraws-list bookM9 [] (allLost 7) (0 ∷ 2 ∷ [])
+  -- sixteen masks are accepted, and the last counts
+  pub most : Withdraws-list bookM1 (fifteen ++ (4 ∷ 0 ∷ [])) bookM2 []
+  -- refused: seventeen, or a list that is not whole, before a bad mask; a bad mask anywhere, before a short buffer; a
+  -- book for another plant before them all
+  pub too-many : withdrawListFault plantP bookM1 (bytesOf (fifteen ++ (8 ∷ 0 ∷ 0 ∷ 0 ∷ []))) 47 8 ≡ 9
+  pub cut : withdrawListFault plantP bookM1 (255 ∷ 255 ∷ 255 ∷ 255 ∷ 255 ∷ []) 47 8 ≡ 9
+  pub first-bad : withdrawListFault plantP bookM1 (bytesOf (8 ∷ 0 ∷ 1 ∷ 0 ∷ [])) 47 8 ≡ 6
+  pub last-bad : withdrawListFault plantP bookM1 (bytesOf (1 ∷ 0 ∷ 0 ∷ 1 ∷ [])) 47 8 ≡ 6
+  pub unlike : withdrawListFault plantMay bookM1 (255 ∷ []) 47 8 ≡ 4

@@ -3,26 +3,29 @@
 //!
 //! A time is the least CPU time of several runs, in microseconds; buffers are reused and not cleared between runs.
 //! `make` is with all moves in service, `withdraw` takes the highest move out of that book, `preview` says what that
-//! costs, and `remake` makes the same book afresh. `consult` is the mean over all states and goals. K is how many
-//! states the book keeps that is written, previewed or consulted. A ratio above 1 says how many times as long the other
-//! solver takes as the first column does.
+//! costs, and `remake` makes the same book afresh. `list` takes the upper half of the moves out of the book that was
+//! made, from the highest down, by one list of 16 masks of one move each; `singles` does that by 16 withdrawals, each
+//! from the book of the one before, and `union` by one withdrawal of all these moves. `consult` is the mean over all
+//! states and goals. K is how many states the book keeps that is written last, previewed or consulted. A ratio above 1
+//! says how many times as long the other solver takes as the first column does.
 //!
-//! After a family's sizes stand the growth of each call from the fewest states to the most, and how many times as long
-//! as withdraw a preview takes with the most.
+//! After a family's sizes stand the growth of each call from the fewest states to the most, and with the most states
+//! how many times as long a preview takes as withdraw, list as union, and singles as list.
 //!
 //! At the end stand consult and moves for the longest plant: consult in a state that serves no goal, and in one that
 //! serves all of them (`passing`); moves in that state, which has one arrow, and in the busiest state there can be; and
 //! how many times as long as the first consult each solver takes for these.
 
 use std::hint::black_box;
+use std::mem::swap;
 
-use planbook::calls::Calls;
+use planbook::calls::{mask_bytes, Calls};
 use planbook::plants::{self, Model, FAMILIES};
-use planbook::second::format::number;
+use planbook::second::format::{number, together};
 use planbook::second::{Fast, Plain};
 
 const SIZES: [u16; 5] = [64, 128, 256, 512, 1024];
-const CALLS: [&str; 5] = ["make", "withdraw", "preview", "remake", "consult"];
+const CALLS: [&str; 8] = ["make", "withdraw", "preview", "remake", "list", "singles", "union", "consult"];
 const LOOKUPS: [&str; 4] = ["consult", "passing", "moves", "busiest"];
 const SEED: u64 = 1;
 
@@ -49,7 +52,9 @@ fn main() {
         }
         let most = &sizes[sizes.len() - 1];
         print_growth(family.name(), &sizes[0], most);
-        print_ratio(family.name(), &CALLS, [2, 1], most);
+        for ratio in [[2, 1], [4, 6], [5, 4]] {
+            print_ratio(family.name(), &CALLS, ratio, most);
+        }
     }
 
     let model = plants::longest();
@@ -88,10 +93,32 @@ fn measure(planner: &dyn Calls, model: &Model) -> Figures<{ CALLS.len() }> {
         }
     });
     let [before, after] = [&book, &out].map(|book| number(book, 6));
+    let ([list, singles, union], rest) = measure_lists(planner, model, &book);
     Figures {
-        times: [make, withdraw, preview, remake, consult / (states * goals) as f64],
-        kept: [before, after, after, after, before],
+        times: [make, withdraw, preview, remake, list, singles, union, consult / (states * goals) as f64],
+        kept: [before, after, after, after, rest, rest, rest, before],
     }
+}
+
+/// The upper half of the moves, withdrawn by a list of 16 masks, by single withdrawals in turn, and by one of all; and
+/// how many states they keep.
+fn measure_lists(planner: &dyn Calls, model: &Model, book: &[u8]) -> ([f64; 3], u16) {
+    let plant = model.bytes();
+    let masks: Vec<u32> = (0..16).map(|line| model.highest_move() >> (line * model.moves / 32)).collect();
+    let (bytes, all) = (mask_bytes(&masks), together(&masks));
+    let [mut out, mut before] = [book.to_vec(), book.to_vec()];
+    let mut drops = vec![0; 2 * model.labels.len()];
+
+    let list = least(|| accepted(planner.withdraw_list(&plant, book, &bytes, &mut out, &mut drops).number));
+    let singles = least(|| {
+        accepted(planner.withdraw(&plant, book, masks[0], &mut out, &mut drops).number);
+        for &mask in &masks[1..] {
+            swap(&mut out, &mut before);
+            accepted(planner.withdraw(&plant, &before, mask, &mut out, &mut drops).number);
+        }
+    });
+    let union = least(|| accepted(planner.withdraw(&plant, book, all, &mut out, &mut drops).number));
+    ([list, singles, union], number(&out, 6))
 }
 
 /// Consult in the last state and in the first, and moves in the first and in the last, for the last goal.

@@ -1,15 +1,21 @@
 //! What is compared: exhaustive rounds on strip plant P, and random rounds that a seed fixes.
 
 use super::Comparison;
+use crate::calls::mask_bytes;
 use crate::plants::{self, bytes_of, Model, Random, FAMILIES};
+use crate::second::format::{read_masks, together};
 use crate::sys::{Answer, LONGEST_BOOK, LONGEST_LIST};
+use lists::{any_list, masks_in_turn};
+
+mod lists;
 
 /// A random round: some calls on inputs that come from the numbers given.
 pub type Round = fn(&mut Comparison, &mut Random);
 
 /// The random rounds, with their names.
-pub const RANDOM_ROUNDS: [(&str, Round); 7] = [
+pub const RANDOM_ROUNDS: [(&str, Round); 8] = [
     ("lists of calls", list_of_calls),
+    ("lists of withdrawals", lists::lists_of_withdrawals),
     ("good moves", good_moves),
     ("invented books", invented_book),
     ("damaged plants", damaged_plant),
@@ -19,8 +25,16 @@ pub const RANDOM_ROUNDS: [(&str, Round); 7] = [
 ];
 
 /// The rounds that leave nothing to chance.
-pub const EXHAUSTIVE_ROUNDS: [fn(&mut Comparison); 5] =
-    [single_bytes, other_lengths, every_mask, every_buffer, largest];
+pub const EXHAUSTIVE_ROUNDS: [fn(&mut Comparison); 8] = [
+    single_bytes,
+    other_lengths,
+    every_mask,
+    every_buffer,
+    lists::every_short_list,
+    lists::every_list_length,
+    lists::every_combination_of_refusals,
+    largest,
+];
 
 /// Runs random rounds of one kind, from a seed on, until so many calls were compared; answers how many rounds.
 pub fn run(comparison: &mut Comparison, round: Round, seed: u64, calls: u64) -> u64 {
@@ -152,48 +166,86 @@ fn any_goal(comparison: &mut Comparison, plant: &[u8], book: &[u8], model: &Mode
     comparison.moves(plant, book, state, goal);
 }
 
-/// A list of makes and withdrawals on one plant, refused ones among them, and a preview of each withdrawal. The
-/// standing book is always the one made afresh for the moves in service, and whether a call is refused is told from its
-/// mask and buffers alone.
+/// A list of makes, withdrawals and lists of withdrawals on one plant, refused ones among them, and a preview of each
+/// single withdrawal. The standing book is always the one made afresh for the moves in service, and whether a call is
+/// refused is told from its masks and buffers alone.
 fn list_of_calls(comparison: &mut Comparison, random: &mut Random) {
     let model = any_plant(random);
     let plant = model.bytes();
-    let (needed, listed) = (book_length(&model), list_length(&model));
-    let mut in_service = many_moves(&model, random);
-    let (_, mut standing) = comparison.make(&plant, in_service, needed);
+    let in_service = many_moves(&model, random);
+    let (_, book) = comparison.make(&plant, in_service, book_length(&model));
+    let mut standing = Standing { model, plant, book, in_service };
     for _ in 0..random.from_to(0, 12) {
-        let makes = random.once_in(5);
-        let mask = if makes { many_moves(&model, random) } else { few_moves(&model, random) };
-        let mask = or_too_high(mask, random);
-        let length = any_length(needed, random);
-        let list = any_length(listed, random);
-        let (answer, book) = if makes {
-            comparison.make(&plant, mask, length)
-        } else {
-            comparison.withdraw(&plant, &standing, mask, [length, list])
-        };
-        let short = length < needed || !makes && list < listed;
-        assert_eq!(answer.number, told(&model, mask, short), "told from the calls alone");
-        if !makes {
-            let cost = comparison.preview(&plant, &standing, mask, list);
-            assert_eq!(cost.number, told(&model, mask, list < listed), "told from the preview alone");
+        match random.below(6) {
+            0 => standing.make(comparison, random),
+            1 => standing.withdraw_list(comparison, random),
+            _ => standing.withdraw(comparison, random),
         }
-        if answer.number == 0 {
-            in_service = if makes { mask } else { in_service & !mask };
-            standing = book;
-        }
-        comparison.made_afresh(&plant, in_service, &standing);
-        any_goal(comparison, &plant, &standing, &model, random);
+        let Standing { model, plant, book, in_service } = &standing;
+        comparison.made_afresh(plant, *in_service, book);
+        any_goal(comparison, plant, book, model, random);
     }
-    look_up(comparison, &plant, &standing, &model, random);
+    look_up(comparison, &standing.plant, &standing.book, &standing.model, random);
 }
 
-/// The number of a call whose plant and book give no refusal, from its mask and whether a buffer is too short.
-fn told(model: &Model, mask: u32, short: bool) -> u32 {
-    match (mask & !model.every_move() != 0, short) {
-        (true, _) => 6,
-        (false, true) => 7,
-        (false, false) => 0,
+/// A plant, its standing book, and the moves in service as they are told from the calls alone.
+struct Standing {
+    model: Model,
+    plant: Vec<u8>,
+    book: Vec<u8>,
+    in_service: u32,
+}
+
+impl Standing {
+    fn make(&mut self, comparison: &mut Comparison, random: &mut Random) {
+        let mask = or_too_high(many_moves(&self.model, random), random);
+        let length = any_length(book_length(&self.model), random);
+        let made = comparison.make(&self.plant, mask, length);
+        self.take(made, self.told(mask, [length, list_length(&self.model)]), mask);
+    }
+
+    fn withdraw(&mut self, comparison: &mut Comparison, random: &mut Random) {
+        let mask = or_too_high(few_moves(&self.model, random), random);
+        let lengths = self.any_lengths(random);
+        let withdrawn = comparison.withdraw(&self.plant, &self.book, mask, lengths);
+        let cost = comparison.preview(&self.plant, &self.book, mask, lengths[1]);
+        let told = self.told(mask, [book_length(&self.model), lengths[1]]);
+        assert_eq!(cost.number, told, "told from the preview alone");
+        self.take(withdrawn, self.told(mask, lengths), self.in_service & !mask);
+    }
+
+    fn withdraw_list(&mut self, comparison: &mut Comparison, random: &mut Random) {
+        let masks = any_list(&self.model, random);
+        let lengths = self.any_lengths(random);
+        let withdrawn = comparison.withdraw_list(&self.plant, &self.book, &masks, lengths);
+        let masks = read_masks(&masks);
+        let all = masks.as_deref().map_or(0, together);
+        let told = masks.map_or_else(|refusal| refusal.number(), |_| self.told(all, lengths));
+        self.take(withdrawn, told, self.in_service & !all);
+    }
+
+    /// Lengths of the buffers for a withdrawal.
+    fn any_lengths(&self, random: &mut Random) -> [usize; 2] {
+        [book_length(&self.model), list_length(&self.model)].map(|needed| any_length(needed, random))
+    }
+
+    /// The number of a call, told from the moves that it names and the lengths of its buffers.
+    fn told(&self, moves: u32, lengths: [usize; 2]) -> u32 {
+        let short = lengths[0] < book_length(&self.model) || lengths[1] < list_length(&self.model);
+        match (moves & !self.model.every_move() != 0, short) {
+            (true, _) => 6,
+            (false, true) => 7,
+            (false, false) => 0,
+        }
+    }
+
+    /// A call was answered, whose number was told to be this one: if it is accepted its book becomes the standing one,
+    /// with these moves in service.
+    fn take(&mut self, (answer, book): (Answer, Vec<u8>), told: u32, in_service: u32) {
+        assert_eq!(answer.number, told, "told from the calls alone");
+        if answer.number == 0 {
+            (self.book, self.in_service) = (book, in_service);
+        }
     }
 }
 
@@ -256,13 +308,18 @@ fn invented_book(comparison: &mut Comparison, random: &mut Random) {
     withdrawals_from_invented(comparison, &model, random);
 }
 
-/// Withdrawals, each previewed, from a book that nobody made, and from what they write; and lookups in them.
+/// Withdrawals, each previewed, from a book that nobody made, and from what they write; lookups in them; and sometimes
+/// a list of a few withdrawals from the first book.
 pub fn withdrawals_from_invented(comparison: &mut Comparison, model: &Model, random: &mut Random) {
     let plant = model.bytes();
+    let lengths = [book_length(model), list_length(model)];
     let mut book = invent_book(model, random);
+    if random.once_in(3) {
+        let masks = masks_in_turn(random.from_to(0, 3), model, random);
+        comparison.withdraw_list(&plant, &book, &mask_bytes(&masks), lengths);
+    }
     for _ in 0..3 {
         let mask = few_moves(model, random);
-        let lengths = [book_length(model), list_length(model)];
         let (answer, next) = withdraw_and_preview(comparison, &plant, &book, mask, lengths);
         assert_eq!(answer.number, 0, "an invented book is accepted");
         look_up(comparison, &plant, &book, model, random);
@@ -271,11 +328,18 @@ pub fn withdrawals_from_invented(comparison: &mut Comparison, model: &Model, ran
 }
 
 /// The plant made with all moves in service, and then one more withdrawn and previewed each time, from the highest
-/// down; and consults and good moves in each of these books.
+/// down; consults and good moves in each of these books; and, unless there are very many states, the upper half of the
+/// moves withdrawn by one list.
 pub fn each_move_in_turn(comparison: &mut Comparison, model: &Model) {
     let plant = model.bytes();
     let lengths = [book_length(model), list_length(model)];
     let (_, mut book) = comparison.make(&plant, model.every_move(), lengths[0]);
+    if model.labels.len() <= 400 {
+        let half = model.moves / 2;
+        let masks: Vec<u32> = (half..model.moves).rev().map(|action| 1 << action).collect();
+        let (_, rest) = comparison.withdraw_list(&plant, &book, &mask_bytes(&masks), lengths);
+        comparison.made_afresh(&plant, (1 << half) - 1, &rest);
+    }
     for action in (0..model.moves).rev() {
         every_goal(comparison, &plant, &book, model, action.into());
         book = withdraw_and_preview(comparison, &plant, &book, 1 << action, lengths).1;
@@ -301,7 +365,7 @@ fn damage(bytes: &mut Vec<u8>, random: &mut Random) {
     }
 }
 
-/// Plants with some bytes damaged, made of, withdrawn and previewed with, and looked up with.
+/// Plants with some bytes damaged, made of, withdrawn and previewed with, by lists too, and looked up with.
 fn damaged_plant(comparison: &mut Comparison, random: &mut Random) {
     let model = plants::tiny(random);
     let book = invent_book(&model, random);
@@ -313,11 +377,12 @@ fn damaged_plant(comparison: &mut Comparison, random: &mut Random) {
         let mask = or_too_high(few_moves(&model, random), random);
         let lengths = [any_length(book.len(), random), list_length(&model)];
         withdraw_and_preview(comparison, &plant, &book, mask, lengths);
+        comparison.withdraw_list(&plant, &book, &any_list(&model, random), lengths);
         any_goal(comparison, &plant, &book, &model, random);
     }
 }
 
-/// Books with some bytes damaged, withdrawn and previewed from, and looked up in.
+/// Books with some bytes damaged, withdrawn and previewed from, by lists too, and looked up in.
 fn damaged_book(comparison: &mut Comparison, random: &mut Random) {
     let model = plants::tiny(random);
     let plant = model.bytes();
@@ -328,6 +393,7 @@ fn damaged_book(comparison: &mut Comparison, random: &mut Random) {
         let mask = or_too_high(few_moves(&model, random), random);
         let lengths = [any_length(whole.len(), random), list_length(&model)];
         withdraw_and_preview(comparison, &plant, &book, mask, lengths);
+        comparison.withdraw_list(&plant, &book, &any_list(&model, random), lengths);
         look_up(comparison, &plant, &book, &model, random);
     }
 }
@@ -349,6 +415,8 @@ fn random_header(comparison: &mut Comparison, random: &mut Random) {
     let mut book = header([states, moves, goals, 0, 0, 0, 16, book_length]);
     plant.resize(plant_length.max(16), 0);
     book.resize(book_length.max(16), 0xff);
+    let masks = [random.bits() as u32 & 3, random.bits() as u32 & 3];
+    comparison.withdraw_list(&plant, &book, &mask_bytes(&masks), [LONGEST_BOOK, LONGEST_LIST]);
     for _ in 0..2 {
         comparison.make(&plant, random.bits() as u32 & 3, LONGEST_BOOK);
         withdraw_and_preview(comparison, &plant, &book, random.bits() as u32 & 3, [LONGEST_BOOK, LONGEST_LIST]);
@@ -367,6 +435,7 @@ fn buffers(comparison: &mut Comparison, random: &mut Random) {
     let (needed, listed) = (book_length(&model), list_length(&model));
     let made = many_moves(&model, random);
     let withdrawn = few_moves(&model, random);
+    let masks = mask_bytes(&[withdrawn, few_moves(&model, random)]);
     let (_, book) = comparison.make(&plant, made, needed);
     for less in 0..6 {
         let (length, list) = ((needed + 3).saturating_sub(less), (listed + 3).saturating_sub(less));
@@ -378,6 +447,9 @@ fn buffers(comparison: &mut Comparison, random: &mut Random) {
         comparison.make(&plant, made, length);
         withdraw_and_preview(comparison, &plant, &book, withdrawn, [needed, length]);
     }
+    for lengths in [[needed - 1, listed], [needed, listed], [needed, listed - 1]] {
+        comparison.withdraw_list(&plant, &book, &masks, lengths);
+    }
 }
 
 /// Strip plant P with all moves in service.
@@ -387,15 +459,24 @@ fn strip_and_book(comparison: &mut Comparison) -> (Vec<u8>, Vec<u8>) {
     (plant, book)
 }
 
-/// Every byte of P and of its book changed to every other value, in every call.
+/// Every byte of P, of its book and of a list of masks changed to every other value, in every call.
 fn single_bytes(comparison: &mut Comparison) {
     let (plant, book) = strip_and_book(comparison);
+    let masks = mask_bytes(&[2, 4]);
+    for at in 0..masks.len() {
+        for value in (0..=255).filter(|&value| value != masks[at]) {
+            let mut masks = masks.clone();
+            masks[at] = value;
+            comparison.withdraw_list(&plant, &book, &masks, [48, 8]);
+        }
+    }
     for at in 0..plant.len() {
         for value in (0..=255).filter(|&value| value != plant[at]) {
             let mut plant = plant.clone();
             plant[at] = value;
             comparison.make(&plant, 7, 64);
             withdraw_and_preview(comparison, &plant, &book, 4, [64, 16]);
+            comparison.withdraw_list(&plant, &book, &masks, [64, 16]);
             for (state, goal) in places(&plants::strip(), 0) {
                 comparison.moves(&plant, &book, state, goal);
             }
@@ -406,6 +487,7 @@ fn single_bytes(comparison: &mut Comparison) {
             let mut book = book.clone();
             book[at] = value;
             withdraw_and_preview(comparison, &plant, &book, 4, [48, 8]);
+            comparison.withdraw_list(&plant, &book, &masks, [48, 8]);
             for state in 0..5 {
                 comparison.row(&book, state);
                 for goal in 0..3 {
@@ -429,11 +511,13 @@ fn other_lengths(comparison: &mut Comparison) {
         let plant = of_length(&plant, length);
         comparison.make(&plant, 7, 48);
         withdraw_and_preview(comparison, &plant, &book, 4, [48, 8]);
+        comparison.withdraw_list(&plant, &book, &mask_bytes(&[2, 4]), [48, 8]);
         comparison.moves(&plant, &book, 0, 1);
     }
     for length in 0..book.len() + 20 {
         let book = of_length(&book, length);
         withdraw_and_preview(comparison, &plant, &book, 4, [48, 8]);
+        comparison.withdraw_list(&plant, &book, &mask_bytes(&[2, 4]), [48, 8]);
         comparison.consult(&book, 0, 1);
         comparison.moves(&plant, &book, 0, 1);
         comparison.row(&book, 0);
@@ -462,6 +546,7 @@ fn every_buffer(comparison: &mut Comparison) {
         comparison.make(&plant, 7, length);
         for list in 0..16 {
             comparison.withdraw(&plant, &book, 1, [length, list]);
+            comparison.withdraw_list(&plant, &book, &mask_bytes(&[4, 1]), [length, list]);
         }
         comparison.preview(&plant, &book, 1, length);
     }
@@ -484,6 +569,8 @@ fn largest(comparison: &mut Comparison) {
         let mask = u32::MAX >> (32 - moves.clamp(1, 32));
         let (_, book) = comparison.make(&plant, mask, 1 << 16);
         withdraw_and_preview(comparison, &plant, &book, mask & 1, [1 << 16, 1 << 12]);
+        let masks: Vec<u32> = (0..16).map(|action| mask & 1 << action).collect();
+        comparison.withdraw_list(&plant, &book, &mask_bytes(&masks), [1 << 16, 1 << 12]);
         comparison.consult(&book, 1023, 7);
         comparison.moves(&plant, &book, 1023, 7);
         comparison.row(&book, 1023);

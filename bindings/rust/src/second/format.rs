@@ -1,6 +1,8 @@
-//! The bytes of plants and books: what document 01 refuses with 1 to 5, and how a book is laid out.
+//! The bytes of plants, books and lists of masks: what document 01 refuses with 1 to 5 and document 02 with 9, and how
+//! a book is laid out.
 
 use super::{require, Table};
+use crate::sys::LONGEST_MASKS;
 use crate::Refusal;
 
 /// Marks both places of every entry of a lost state.
@@ -146,6 +148,21 @@ pub fn write_book(plant: &Plant, mask: u32, table: &Table, book: &mut [u8]) {
     for (place, value) in book.chunks_exact_mut(2).zip(header.chain(rows)) {
         place.copy_from_slice(&value.to_le_bytes());
     }
+}
+
+/// Reads a list of masks, four bytes each; refuses with 9. An empty list is one mask of 0.
+pub fn read_masks(bytes: &[u8]) -> Result<Vec<u32>, Refusal> {
+    require(bytes.len() % 4 == 0 && bytes.len() <= LONGEST_MASKS, Refusal::MaskList)?;
+    if bytes.is_empty() {
+        return Ok(vec![0]);
+    }
+    let mask = |four: &[u8]| u32::from_le_bytes([four[0], four[1], four[2], four[3]]);
+    Ok(bytes.chunks_exact(4).map(mask).collect())
+}
+
+/// The moves that some of the masks have.
+pub fn together(masks: &[u32]) -> u32 {
+    masks.iter().fold(0, |all, mask| all | mask)
 }
 
 /// Whether the mask has the move.

@@ -44,9 +44,14 @@ impl Table {
         self.waits[state * plant.goals] != LOST
     }
 
+    /// For each state whether it is kept.
+    pub fn kept(&self, plant: &Plant) -> Vec<bool> {
+        (0..plant.states).map(|state| self.is_kept(plant, state)).collect()
+    }
+
     /// How many states are kept.
     pub fn kept_count(&self, plant: &Plant) -> usize {
-        (0..plant.states).filter(|&state| self.is_kept(plant, state)).count()
+        self.kept(plant).into_iter().filter(|&kept| kept).count()
     }
 }
 
@@ -71,6 +76,10 @@ impl<S: Solve> Calls for S {
 
     fn withdraw(&self, plant: &[u8], book: &[u8], mask: u32, out: &mut [u8], drops: &mut [u8]) -> Answer {
         withdraw::<S>(plant, book, mask, out, drops).unwrap_or_else(|refusal| Answer::refused(refusal.number()))
+    }
+
+    fn withdraw_list(&self, plant: &[u8], book: &[u8], masks: &[u8], out: &mut [u8], drops: &mut [u8]) -> Answer {
+        withdraw_list::<S>(plant, book, masks, out, drops).unwrap_or_else(|refusal| Answer::refused(refusal.number()))
     }
 
     fn preview(&self, plant: &[u8], book: &[u8], mask: u32, drops: &mut [u8]) -> Cost {
@@ -107,52 +116,83 @@ fn withdraw<S: Solve>(
     out: &mut [u8],
     drops: &mut [u8],
 ) -> Result<Answer, Refusal> {
-    let Withdrawal { plant, kept, left } = Withdrawal::read(plant, book, mask)?;
-    let length = plant.book_length();
-    require(out.len() >= length && drops.len() >= 2 * plant.states, Refusal::Buffer)?;
-    let table = S::solve(&plant, left, &kept);
-    format::write_book(&plant, left, &table, &mut out[..length]);
-    Ok(Answer { number: 0, length: length as u32, drops: list_dropped(&plant, &kept, &table, drops) })
+    Start::read(plant, book)?.withdraw::<S>(&[mask], out, drops)
+}
+
+fn withdraw_list<S: Solve>(
+    plant: &[u8],
+    book: &[u8],
+    masks: &[u8],
+    out: &mut [u8],
+    drops: &mut [u8],
+) -> Result<Answer, Refusal> {
+    let start = Start::read(plant, book)?;
+    start.withdraw::<S>(&format::read_masks(masks)?, out, drops)
 }
 
 /// Solves the plant as withdraw does, and counts the rows in place of writing them.
 fn preview<S: Solve>(plant: &[u8], book: &[u8], mask: u32, drops: &mut [u8]) -> Result<Cost, Refusal> {
-    let Withdrawal { plant, kept, left } = Withdrawal::read(plant, book, mask)?;
-    require(drops.len() >= 2 * plant.states, Refusal::Buffer)?;
-    let table = S::solve(&plant, left, &kept);
-    let rest = table.kept_count(&plant) as u32;
-    Ok(Cost { number: 0, drops: list_dropped(&plant, &kept, &table, drops), kept: rest })
+    let start = Start::read(plant, book)?;
+    require(start.plant.has_moves(mask), Refusal::Mask)?;
+    require(drops.len() >= 2 * start.plant.states, Refusal::Buffer)?;
+    let (_, table) = start.solve::<S>(&[mask]);
+    let kept = table.kept_count(&start.plant) as u32;
+    Ok(Cost { number: 0, drops: start.list_dropped(&table, drops), kept })
 }
 
-/// What withdraw and preview work from.
-struct Withdrawal {
+/// What withdrawals and previews of them start from.
+struct Start {
     plant: Plant,
     /// Whether each state is kept in the book handed in.
     kept: Vec<bool>,
-    /// The moves still in service.
-    left: u32,
+    /// The moves in service in that book.
+    mask: u32,
 }
 
-impl Withdrawal {
-    /// Refuses with 1 to 6.
-    fn read(plant: &[u8], book: &[u8], mask: u32) -> Result<Withdrawal, Refusal> {
+impl Start {
+    /// Refuses with 1 to 5.
+    fn read(plant: &[u8], book: &[u8]) -> Result<Start, Refusal> {
         let plant = Plant::read(plant)?;
-        let old = BookView::read(book, Some(&plant))?;
-        require(plant.has_moves(mask), Refusal::Mask)?;
-        let kept = (0..plant.states).map(|state| old.is_kept(state)).collect();
-        Ok(Withdrawal { plant, kept, left: old.mask & !mask })
+        let book = BookView::read(book, Some(&plant))?;
+        let kept = (0..plant.states).map(|state| book.is_kept(state)).collect();
+        Ok(Start { plant, kept, mask: book.mask })
     }
-}
 
-/// Lists the states that were kept and that the table has lost, by rising number; answers how many.
-fn list_dropped(plant: &Plant, kept: &[bool], table: &Table, drops: &mut [u8]) -> u32 {
-    let dropped = (0..plant.states).filter(|&state| kept[state] && !table.is_kept(plant, state));
-    let mut count = 0;
-    for (state, place) in dropped.zip(drops.chunks_exact_mut(2)) {
-        place.copy_from_slice(&(state as u16).to_le_bytes());
-        count += 1;
+    /// Withdraws the moves of these masks, of which there is one at least, in turn, and writes the last book and the
+    /// states lost in it that were kept at the start. Refuses with 6 and 7.
+    fn withdraw<S: Solve>(&self, masks: &[u32], out: &mut [u8], drops: &mut [u8]) -> Result<Answer, Refusal> {
+        let plant = &self.plant;
+        let length = plant.book_length();
+        require(masks.iter().all(|&mask| plant.has_moves(mask)), Refusal::Mask)?;
+        require(out.len() >= length && drops.len() >= 2 * plant.states, Refusal::Buffer)?;
+        let (left, table) = self.solve::<S>(masks);
+        format::write_book(plant, left, &table, &mut out[..length]);
+        Ok(Answer { number: 0, length: length as u32, drops: self.list_dropped(&table, drops) })
     }
-    count
+
+    /// The moves left in service and the last table when the moves of these masks are withdrawn in turn, each time from
+    /// the states that the table before keeps.
+    fn solve<S: Solve>(&self, masks: &[u32]) -> (u32, Table) {
+        let (first, others) = masks.split_first().expect("one mask at least");
+        let mut left = self.mask & !first;
+        let mut table = S::solve(&self.plant, left, &self.kept);
+        for mask in others {
+            left &= !mask;
+            table = S::solve(&self.plant, left, &table.kept(&self.plant));
+        }
+        (left, table)
+    }
+
+    /// Lists the states that were kept and that the table has lost, by rising number; answers how many.
+    fn list_dropped(&self, table: &Table, drops: &mut [u8]) -> u32 {
+        let dropped = (0..self.plant.states).filter(|&state| self.kept[state] && !table.is_kept(&self.plant, state));
+        let mut count = 0;
+        for (state, place) in dropped.zip(drops.chunks_exact_mut(2)) {
+            place.copy_from_slice(&(state as u16).to_le_bytes());
+            count += 1;
+        }
+        count
+    }
 }
 
 fn consult(book: &[u8], state: u32, goal: u32) -> Result<Advice, Refusal> {

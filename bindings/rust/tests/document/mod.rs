@@ -1,8 +1,8 @@
 //! What document 01 fixes by hand: the marked examples M1 to M11, and the table of refusals with its edges; and what
-//! requests (i), (ii), (iv) and (v) of document 02 say of the good moves, of drop lists, of previews and of the goals
-//! that are passed, worked out by hand. Run on any planner.
+//! requests (i), (ii), (iv), (v) and (vi) of document 02 say of the good moves, of drop lists, of previews, of the
+//! goals that are passed and of lists of withdrawals, worked out by hand. Run on any planner.
 
-use planbook::calls::Calls;
+use planbook::calls::{mask_bytes, Calls};
 use planbook::plants::{self, bytes_of, Model};
 use planbook::sys::{Advice, Answer, Cost, Mask, Part};
 
@@ -22,6 +22,10 @@ const M1_ROWS: [u16; 16] = [0, 0, 2, 0, /**/ 1, 2, 1, 0, /**/ 1, 0, 0, 0, /**/ L
 /// The rows of M9's book, which nobody made: M1's with row 1 lost.
 const M9_ROWS: [u16; 16] =
     [0, 0, 2, 0, /**/ LOST, LOST, LOST, LOST, /**/ 1, 0, 0, 0, /**/ LOST, LOST, LOST, LOST];
+
+/// P's rows with move 0 alone in service: it leads round, from 0 to 1, to 2 and to 0 again.
+const ROUND_ROWS: [u16; 16] =
+    [0, 0, 2, 0, /**/ 2, 0, 1, 0, /**/ 1, 0, 0, 0, /**/ LOST, LOST, LOST, LOST];
 
 /// Rows that keep state 3, too, which P does not allow.
 const NOT_ALLOWED_ROWS: [u16; 16] = [0, 0, 2, 0, /**/ 1, 2, 1, 0, /**/ 1, 0, 0, 0, /**/ 0, 0, 0, 0];
@@ -47,12 +51,22 @@ fn advice(action: u32, wait: u32, seek: u32) -> Advice {
 }
 
 fn check_withdrawal(planner: &dyn Calls, book: &[u8], mask: u32, expected: &[u8], dropped: &[u16]) {
-    let (mut out, mut list) = ([0xa5; 50], [0xa5; 10]);
-    let answer = planner.withdraw(&bytes_of(&P), book, mask, &mut out, &mut list);
-    assert_eq!(answer, Answer { number: 0, length: 48, drops: dropped.len() as u32 });
-    assert_eq!(out[..48], *expected);
-    assert_eq!((out[48], out[49]), (0xa5, 0xa5), "bytes past the book stay");
-    assert_eq!(list[..], listed(dropped, list.len()));
+    check_written(expected, dropped, |out, list| planner.withdraw(&bytes_of(&P), book, mask, out, list));
+}
+
+/// An accepted list of withdrawals from a book of P.
+fn check_list(planner: &dyn Calls, book: &[u8], masks: &[u8], expected: &[u8], dropped: &[u16]) {
+    check_written(expected, dropped, |out, list| planner.withdraw_list(&bytes_of(&P), book, masks, out, list));
+}
+
+/// An accepted withdrawal, in buffers that are longer than is needed.
+fn check_written(expected: &[u8], dropped: &[u16], withdraw: impl FnOnce(&mut [u8], &mut [u8]) -> Answer) {
+    let states = usize::from(u16::from_le_bytes([expected[0], expected[1]]));
+    let [mut out, mut list] = [expected.len(), 2 * states].map(|length| vec![0xa5; length + 2]);
+    let answer = withdraw(&mut out, &mut list);
+    assert_eq!(answer, Answer { number: 0, length: expected.len() as u32, drops: dropped.len() as u32 });
+    assert_eq!(out, [expected, &[0xa5; 2]].concat(), "the book, and bytes past it stay");
+    assert_eq!(list, listed(dropped, list.len()));
 }
 
 /// A drop buffer of this length that had 0xa5 in every byte: the states by rising number, and the bytes past them as
@@ -153,6 +167,83 @@ pub fn previews(planner: &dyn Calls) {
     check(&book_of_p(0, 7, [LOST; 16]), 1, &[], 0);
 }
 
+/// Lists of withdrawals from books of P, by hand.
+pub fn lists(planner: &dyn Calls) {
+    let check = |book: &[u8], masks: &[u32], expected: &[u8], dropped: &[u16]| {
+        check_list(planner, book, &mask_bytes(masks), expected, dropped);
+    };
+    let [m1, without_move_1] = [7, 5].map(|mask| book_of_p(3, mask, M1_ROWS));
+    let round = book_of_p(3, 1, ROUND_ROWS);
+    let lost = |mask| book_of_p(0, mask, [LOST; 16]);
+    let mut m2_rows = M1_ROWS;
+    m2_rows[4..6].copy_from_slice(&[2, 0]);
+    let m2 = book_of_p(3, 3, m2_rows);
+
+    // Moves 1 and 2, in either order and both at once: move 0 leads round.
+    check_list(planner, &m1, &[2, 0, 0, 0, 4, 0, 0, 0], &round, &[]);
+    check(&m1, &[4, 2], &round, &[]);
+    check(&m1, &[6], &round, &[]);
+    // Without move 2 all stay, and then without move 0 none does; or the other way round.
+    check(&m1, &[4, 1], &lost(2), &[0, 1, 2]);
+    check(&m1, &[1, 4], &lost(2), &[0, 1, 2]);
+    // A move that is named again stays out of service.
+    check(&m1, &[2, 2], &without_move_1, &[]);
+    check(&without_move_1, &[2, 0, 6, 4], &round, &[]);
+
+    // No move, by one mask and by none: M1's book as it was. In M9's book, which nobody made, every move of state 0 may
+    // lead to the lost state 1, so that it is lost, too, and then state 2, whose moves lead to 0 and to 1.
+    check(&m1, &[0], &m1, &[]);
+    check(&m1, &[], &m1, &[]);
+    let m9 = book_of_p(2, 7, M9_ROWS);
+    check(&m9, &[], &lost(7), &[0, 2]);
+    check(&m9, &[0, 0], &lost(7), &[0, 2]);
+    check(&m9, &[2, 4], &lost(1), &[0, 2]);
+
+    // State 3, which the plant does not allow, goes with the first mask, and the others with the last: by rising number
+    // all the same.
+    let not_allowed = book_of_p(4, 7, NOT_ALLOWED_ROWS);
+    check(&not_allowed, &[], &m1, &[3]);
+    check(&not_allowed, &[2, 4], &round, &[3]);
+    check(&not_allowed, &[4, 1], &lost(2), &[0, 1, 2, 3]);
+    // Nothing is kept, so nothing is dropped.
+    check(&lost(7), &[4, 1], &lost(2), &[]);
+
+    // 15 masks and 16, with the one that tells first, last or between.
+    check(&m1, &[0; 15], &m1, &[]);
+    check(&m1, &[0; 16], &m1, &[]);
+    for at in 0..16 {
+        let mut masks = [0; 16];
+        masks[at] = 4;
+        check(&m1, &masks, &m2, &[]);
+    }
+}
+
+/// Lists of withdrawals that drop a state with each mask, by hand: 32 states in the one goal, each of which stays where
+/// it is by the move of its own number.
+pub fn lists_that_drop_with_each_mask(planner: &dyn Calls) {
+    let arrows = (0..32).map(|state| [state, state, state]).collect();
+    let plant = Model { moves: 32, goals: 1, labels: vec![3; 32], arrows }.bytes();
+    let book = |mask: u32| {
+        let rows = (0..32).flat_map(|state| if mask >> state & 1 != 0 { [0, state] } else { [LOST; 2] });
+        let header = [32, 32, 1, mask.count_ones() as u16, mask as u16, (mask >> 16) as u16, 16, 144];
+        bytes_of(&header.into_iter().chain(rows).collect::<Vec<u16>>())
+    };
+    let check = |made: u32, masks: &[u32], left: u32, dropped: &[u16]| {
+        let withdraw =
+            |out: &mut [u8], list: &mut [u8]| planner.withdraw_list(&plant, &book(made), &mask_bytes(masks), out, list);
+        check_written(&book(left), dropped, withdraw);
+    };
+    // The upper half, from the highest down; every other one, from the lowest up; and all, two with each mask.
+    let of = |moves: [u16; 16]| moves.map(|action| 1 << action);
+    check(u32::MAX, &of(std::array::from_fn(|at| 31 - at as u16)), 0xffff, &(16..32).collect::<Vec<u16>>());
+    let even = std::array::from_fn(|at| 2 * at as u16);
+    check(u32::MAX, &of(even), 0xaaaa_aaaa, &even);
+    let pairs: [u32; 16] = std::array::from_fn(|at| 1 << at | 1 << (31 - at));
+    check(u32::MAX, &pairs, 0, &(0..32).collect::<Vec<u16>>());
+    // Moves 0 and 31, each named twice, and moves 8 and 9, which are out already, with states 8 and 9 lost.
+    check(!0x300, &[1 << 31, 1 << 9, 1, 1 << 31, 1, 1 << 8], !0x8000_0301, &[0, 31]);
+}
+
 /// The longest plant, and its book with all moves in service, in which every state is kept.
 fn longest(planner: &dyn Calls) -> (Vec<u8>, Vec<u8>) {
     let plant = plants::longest().bytes();
@@ -172,27 +263,41 @@ pub fn previews_of_the_longest(planner: &dyn Calls) {
 
 /// Drop lists of a plant of 1,024 states, by hand, in buffers that are just long enough, longer, and too short by one
 /// byte; and the previews of them. Each state is in the one goal and stays there by the moves of its own: move 0, and
-/// every third state move 1 too. Without move 0 the others are dropped, without both all are.
+/// every third state move 1 too. Without move 0 the others are dropped, without both all are, whichever goes first.
 pub fn drop_lists(planner: &dyn Calls) {
     let stays = |state: u16| (0..if state % 3 == 0 { 2 } else { 1 }).map(move |action| [state, action, state]);
     let arrows = (0..1024).flat_map(stays).collect();
     let plant = Model { moves: 2, goals: 1, labels: vec![3; 1024], arrows }.bytes();
     let mut book = vec![0; 16 + 4 * 1024];
     assert_eq!(planner.make(&plant, 3, &mut book).number, 0);
-    let check = |mask, dropped: &[u16]| {
+    let check_drops = |dropped: &[u16], withdraw: &dyn Fn(&mut [u8], &mut [u8]) -> Answer| {
         for length in [2048, 2051] {
             let (mut out, mut list) = (book.clone(), vec![0xa5; length]);
-            let answer = planner.withdraw(&plant, &book, mask, &mut out, &mut list);
+            let answer = withdraw(&mut out, &mut list);
             assert_eq!((answer.number, answer.drops as usize), (0, dropped.len()));
             assert_eq!(list, listed(dropped, length));
         }
+    };
+    let check_masks = |masks: &[u32], dropped: &[u16]| {
+        let masks = mask_bytes(masks);
+        check_drops(dropped, &|out, list| planner.withdraw_list(&plant, &book, &masks, out, list));
+        check_withdraw_list(planner, &plant, &book, &masks, [book.len(), 2047], 7);
+    };
+    let check = |mask, dropped: &[u16]| {
+        check_drops(dropped, &|out, list| planner.withdraw(&plant, &book, mask, out, list));
         check_withdraw(planner, &plant, &book, mask, [book.len(), 2047], 7);
         check_cost(planner, &plant, &book, mask, dropped, 1024 - dropped.len() as u32);
+        check_masks(&[mask], dropped);
     };
+    let all: Vec<u16> = (0..1024).collect();
+    let others: Vec<u16> = (0..1024).filter(|state| state % 3 != 0).collect();
     check(0, &[]);
-    check(1, &(0..1024).filter(|state| state % 3 != 0).collect::<Vec<u16>>());
+    check(1, &others);
     check(2, &[]);
-    check(3, &(0..1024).collect::<Vec<u16>>());
+    check(3, &all);
+    check_masks(&[1, 2], &all);
+    check_masks(&[2, 1], &all);
+    check_masks(&[2, 0, 2], &[]);
 }
 
 /// The good moves for each state and goal in turn, as masks.
@@ -388,9 +493,21 @@ fn check_withdraw(planner: &dyn Calls, plant: &[u8], book: &[u8], mask: u32, len
     let [mut out, mut list] = lengths.map(|length| vec![0xa5; length]);
     let answer = planner.withdraw(plant, book, mask, &mut out, &mut list);
     assert_eq!(answer.number, number, "withdraw from {book:?}, plant {plant:?}");
-    if number != 0 {
-        assert_eq!(answer, Answer::refused(number));
-        assert!(out.iter().chain(&list).all(|&byte| byte == 0xa5), "a refusal writes nothing");
+    check_untouched(answer, [&out, &list]);
+}
+
+fn check_withdraw_list(planner: &dyn Calls, plant: &[u8], book: &[u8], masks: &[u8], lengths: [usize; 2], number: u32) {
+    let [mut out, mut list] = lengths.map(|length| vec![0xa5; length]);
+    let answer = planner.withdraw_list(plant, book, masks, &mut out, &mut list);
+    assert_eq!(answer.number, number, "withdraw the list {masks:?} from {book:?}, plant {plant:?}");
+    check_untouched(answer, [&out, &list]);
+}
+
+/// If a withdrawal is refused it answers nothing but the number, and its buffers still have 0xa5 in every byte.
+fn check_untouched(answer: Answer, buffers: [&[u8]; 2]) {
+    if answer.number != 0 {
+        assert_eq!(answer, Answer::refused(answer.number));
+        assert!(buffers.concat().iter().all(|&byte| byte == 0xa5), "a refusal writes nothing");
     }
 }
 
@@ -447,8 +564,9 @@ pub fn refusals(planner: &dyn Calls) {
     book_headers(planner);
     book_rows(planner);
     masks_and_buffers(planner);
+    lists_of_masks(planner);
     states_and_goals(planner);
-    the_lowest_that_applies(planner);
+    the_first_that_applies(planner);
 }
 
 /// The numbers of M1's book.
@@ -462,6 +580,7 @@ fn check_plant(planner: &dyn Calls, plant: &[u8], number: u32) {
     if number != 0 {
         let book = bytes_of(&m1_numbers());
         check_withdraw(planner, plant, &book, 0, [48, 8], number);
+        check_withdraw_list(planner, plant, &book, &[], [48, 8], number);
         check_preview(planner, plant, &book, 0, 8, number);
         check_moves(planner, plant, &book, 0, 0, number);
     }
@@ -471,6 +590,7 @@ fn check_plant(planner: &dyn Calls, plant: &[u8], number: u32) {
 fn check_book(planner: &dyn Calls, book: &[u8], number: u32) {
     let plant = bytes_of(&P);
     check_withdraw(planner, &plant, book, 4, [48, 8], number);
+    check_withdraw_list(planner, &plant, book, &mask_bytes(&[2, 4]), [48, 8], number);
     check_preview(planner, &plant, book, 4, 8, number);
     check_moves(planner, &plant, book, 3, 1, number);
 }
@@ -604,6 +724,49 @@ fn masks_and_buffers(planner: &dyn Calls) {
     }
 }
 
+/// 9, 6 and 7 of a list of masks: its length, its masks, and the buffers.
+fn lists_of_masks(planner: &dyn Calls) {
+    let (plant, book) = (bytes_of(&P), bytes_of(&m1_numbers()));
+    let check = |masks: &[u8], lengths, number| check_withdraw_list(planner, &plant, &book, masks, lengths, number);
+    // 9: a length that is not a multiple of 4, or above 64; whatever the bytes are.
+    for length in 0..=72 {
+        let whole = [0, 4, 8, 12, 16, 20, 24, 28, 32, 36, 40, 44, 48, 52, 56, 60, 64].contains(&length);
+        check(&vec![0; length], [48, 8], if whole { 0 } else { 9 });
+        let bad = if length == 0 { 0 } else { 6 };
+        check(&vec![0xff; length], [48, 8], if whole { bad } else { 9 });
+    }
+
+    // 6: a mask with a bit at U or above, in any place.
+    for (masks, number) in [
+        (&[7, 7][..], 0),
+        (&[8], 6),
+        (&[1, 8], 6),
+        (&[8, 1], 6),
+        (&[7, 15, 7], 6),
+        (&[0, 1 << 31], 6),
+        (&[1 << 3, 1 << 4], 6),
+    ] {
+        check(&mask_bytes(masks), [48, 8], number);
+    }
+    for at in 0..16 {
+        let mut masks = [7; 16];
+        masks[at] = 8;
+        check(&mask_bytes(&masks), [48, 8], 6);
+    }
+    for (moves, number) in [(32, 0), (31, 6)] {
+        let lost = bytes_of(&[1, moves, 1, 0, 0, 0, 16, 20, LOST, LOST]);
+        let masks = mask_bytes(&[0, u32::MAX]);
+        check_withdraw_list(planner, &bare(1, moves, 1), &lost, &masks, [20, 2], number);
+    }
+
+    // 7: the buffers, just long enough and one byte short, also for an empty list.
+    for masks in [&[2, 4][..], &[]] {
+        for (lengths, number) in [([48, 8], 0), ([49, 9], 0), ([47, 8], 7), ([48, 7], 7), ([0, 8], 7), ([48, 0], 7)] {
+            check(&mask_bytes(masks), lengths, number);
+        }
+    }
+}
+
 /// 8: the state and the goal asked for.
 fn states_and_goals(planner: &dyn Calls) {
     let (plant, book) = (bytes_of(&P), bytes_of(&m1_numbers()));
@@ -613,28 +776,33 @@ fn states_and_goals(planner: &dyn Calls) {
     }
 }
 
-/// Each fault added to all those after it.
-fn the_lowest_that_applies(planner: &dyn Calls) {
+/// Each fault added to all those after it. In a list of masks 9 comes straight before 6.
+fn the_first_that_applies(planner: &dyn Calls) {
     let (plant, book) = (bytes_of(&P), bytes_of(&m1_numbers()));
     let mut faulty_plant = P.to_vec();
     let mut faulty_book = m1_numbers();
-    check_withdraw(planner, &plant, &book, 8, [47, 8], 6);
-    check_preview(planner, &plant, &book, 8, 7, 6);
+    // With a mask that is bad, in lists that are whole, cut and too long, and buffers that are too short.
+    let check = |plant: &[u8], book: &[u8], number, length_number| {
+        check_withdraw(planner, plant, book, 8, [47, 8], number);
+        check_preview(planner, plant, book, 8, 7, number);
+        check_withdraw_list(planner, plant, book, &mask_bytes(&[4, 8]), [47, 7], number);
+        for masks in [&[0xff; 3][..], &[0xff; 5], &[0xff; 65], &[0xff; 68], &[0; 68]] {
+            check_withdraw_list(planner, plant, book, masks, [47, 7], length_number);
+        }
+    };
+    check(&plant, &book, 6, 9);
     faulty_book[8] = 1024;
-    check_withdraw(planner, &plant, &bytes_of(&faulty_book), 8, [47, 8], 5);
-    check_preview(planner, &plant, &bytes_of(&faulty_book), 8, 7, 5);
+    check(&plant, &bytes_of(&faulty_book), 5, 5);
     check_moves(planner, &plant, &bytes_of(&faulty_book), 4, 2, 5);
     check_lookup(planner, &bytes_of(&faulty_book), 4, 2, 5);
     check_moves(planner, &bare(2, 1, 1), &bytes_of(&faulty_book), 4, 2, 4);
     faulty_book[6] = 15;
-    check_withdraw(planner, &plant, &bytes_of(&faulty_book), 8, [47, 8], 4);
-    check_preview(planner, &plant, &bytes_of(&faulty_book), 8, 7, 4);
+    check(&plant, &bytes_of(&faulty_book), 4, 4);
     check_moves(planner, &plant, &bytes_of(&faulty_book), 4, 2, 4);
     check_lookup(planner, &bytes_of(&faulty_book), 4, 2, 4);
     for (at, number, refusal) in [(33, 4, 3), (8, 8, 2), (7, 1, 1)] {
         faulty_plant[at] = number;
-        check_withdraw(planner, &bytes_of(&faulty_plant), &bytes_of(&faulty_book), 8, [47, 8], refusal);
-        check_preview(planner, &bytes_of(&faulty_plant), &bytes_of(&faulty_book), 8, 7, refusal);
+        check(&bytes_of(&faulty_plant), &bytes_of(&faulty_book), refusal, refusal);
         check_moves(planner, &bytes_of(&faulty_plant), &bytes_of(&faulty_book), 4, 2, refusal);
         check_make(planner, &bytes_of(&faulty_plant), 8, 47, refusal);
     }

@@ -1,11 +1,11 @@
-//! What requests (i), (ii), (iv) and (v) of document 02 promise of the books that make or withdraw wrote for a plant:
-//! which goal is arrived at and which the good moves are, that following the book meets all goals, by its own moves or
-//! by any pick from the good ones, what a drop list says of the books before and after, and that previews come true.
-//! Run on any planner; nothing is compared with another.
+//! What requests (i), (ii), (iv), (v) and (vi) of document 02 promise of the books that make or withdraw wrote for a
+//! plant: which goal is arrived at and which the good moves are, that following the book meets all goals, by its own
+//! moves or by any pick from the good ones, what a drop list says of the books before and after, that previews come
+//! true, and what a list of withdrawals comes to. Run on any planner; nothing is compared with another.
 
-use planbook::calls::Calls;
+use planbook::calls::{mask_bytes, Calls};
 use planbook::plants::{self, Model, Random, FAMILIES};
-use planbook::second::format::{in_mask, number, BookView, Plant};
+use planbook::second::format::{in_mask, number, together, BookView, Plant};
 use planbook::sys::Advice;
 
 /// Every move of a mask.
@@ -24,6 +24,14 @@ fn make(planner: &dyn Calls, model: &Model, mask: u32) -> Vec<u8> {
 fn withdraw_listed(planner: &dyn Calls, model: &Model, book: &[u8], mask: u32) -> (Vec<u8>, Vec<u16>) {
     let (mut out, mut drops) = (book.to_vec(), vec![0; 2 * model.labels.len()]);
     let answer = planner.withdraw(&model.bytes(), book, mask, &mut out, &mut drops);
+    assert_eq!(answer.number, 0);
+    (out, listed(&drops, answer.drops))
+}
+
+/// The book without the moves of a list of masks, and the drop list.
+fn withdraw_list(planner: &dyn Calls, model: &Model, book: &[u8], masks: &[u32]) -> (Vec<u8>, Vec<u16>) {
+    let (mut out, mut drops) = (book.to_vec(), vec![0; 2 * model.labels.len()]);
+    let answer = planner.withdraw_list(&model.bytes(), book, &mask_bytes(masks), &mut out, &mut drops);
     assert_eq!(answer.number, 0);
     (out, listed(&drops, answer.drops))
 }
@@ -92,6 +100,12 @@ fn kept_states(book: &[u8]) -> Vec<u16> {
     (0..rows.states).filter(|&state| rows.is_kept(state)).map(|state| state as u16).collect()
 }
 
+/// The states whose rows are kept in the book before and lost in the one after, by rising number.
+fn dropped_states(before: &[u8], after: &[u8]) -> Vec<u16> {
+    let after = read(after);
+    kept_states(before).into_iter().filter(|&state| !after.is_kept(state.into())).collect()
+}
+
 /// Previews come true. For each withdrawal of a list the preview tells which kept rows the book after it has lost, and
 /// how many it has kept; and from the first book, the preview of all these moves at once tells the same of the last.
 pub fn previews_come_true(planner: &dyn Calls) {
@@ -102,8 +116,7 @@ pub fn previews_come_true(planner: &dyn Calls) {
         let (model, first) = any_book(planner, random);
         let masks: Vec<u32> = (0..random.from_to(1, 5)).map(|_| 1 << random.below(model.moves.into())).collect();
         let mut check = |before: &[u8], mask: u32, after: &[u8]| {
-            let (mut dropped, kept) = (kept_states(before), kept_states(after));
-            dropped.retain(|state| !kept.contains(state));
+            let (dropped, kept) = (dropped_states(before, after), kept_states(after));
             let previewed = preview(planner, &model, before, mask);
             let kind = match (dropped.is_empty(), kept.is_empty()) {
                 (true, _) => 0,
@@ -119,11 +132,50 @@ pub fn previews_come_true(planner: &dyn Calls) {
             check(&book, mask, &after);
             book = after;
         }
-        check(&first, masks.iter().fold(0, |all, mask| all | mask), &book);
+        check(&first, together(&masks), &book);
     }
     let [none, some, all] = costs;
     println!("{}: {none} previews drop no state, {some} drop some and keep others, {all} drop all", planner.name());
     assert!(none > 1_000 && some > 200 && all > 200);
+}
+
+/// A list of withdrawals comes to the book of the single ones in turn, which is the one made afresh for the moves left
+/// in service; to cut it in two, anywhere, or to turn it round makes no difference. Its drop list has the states whose
+/// rows are kept in the first book and lost in the last, by rising number.
+pub fn lists_come_to_the_withdrawals_in_turn(planner: &dyn Calls) {
+    // How many lists have each number of masks; and in how many no mask drops states, one does, and more do.
+    let (mut lengths, mut costs) = ([0; 17], [0; 3]);
+    for seed in 0..1_000 {
+        let random = &mut Random::new(seed);
+        let (model, first) = any_book(planner, random);
+        let mut masks = vec![0; random.from_to(0, 16)];
+        masks.fill_with(|| 1 << random.below(model.moves.into()) & random.bits() as u32);
+        let (mut last, mut dropping) = (first.clone(), 0);
+        for &mask in &masks {
+            let (next, list) = withdraw_listed(planner, &model, &last, mask);
+            dropping += usize::from(!list.is_empty());
+            last = next;
+        }
+        let expected = (last.clone(), dropped_states(&first, &last));
+        assert_eq!(withdraw_list(planner, &model, &first, &masks), expected, "{masks:x?}, seed {seed}");
+        let afresh = make(planner, &model, read(&first).mask & !together(&masks));
+        assert_eq!(last, afresh, "made afresh without {masks:x?}, seed {seed}");
+        let (one, two) = masks.split_at(random.below(masks.len() + 1));
+        let (between, _) = withdraw_list(planner, &model, &first, one);
+        let (in_two, _) = withdraw_list(planner, &model, &between, two);
+        assert_eq!(in_two, last, "{one:x?} and then {two:x?}, seed {seed}");
+        lengths[masks.len()] += 1;
+        costs[dropping.min(2)] += 1;
+        masks.reverse();
+        assert_eq!(withdraw_list(planner, &model, &first, &masks), expected, "{masks:x?}, seed {seed}");
+    }
+    let [none, one, more] = costs;
+    println!(
+        "{}: in {none} lists of withdrawals no mask drops states, in {one} one does, in {more} more do; by their \
+         number of masks, from 0 to 16: {lengths:?}",
+        planner.name()
+    );
+    assert!(none > 500 && one > 100 && more > 50 && lengths.iter().all(|&many| many > 30));
 }
 
 /// A plant and a mask with a move and move 0 in each other's place.

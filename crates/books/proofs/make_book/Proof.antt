@@ -20,10 +20,17 @@ use Rattle.books.proofs.make_book.Tie as tie
 make-requires : tie.Need-make-requires
 make-requires c κs = search needs
 
+refused-requires : tie.Need-refused-requires
+refused-requires c κs = search needs
+
 returns : tie.Need-returns
 returns c =
-    let a = c .before .before .before .before .args in
-    (make-refused (now (a .plant)) (a .mask) (now (a .out)) _ (c .before .make .ensures) (c .if1 .taken), demands)
+    let e = c .before in
+    let a = e .before .before .before .before .args in (
+      make-refused (now (a .plant)) (a .mask) (now (a .out)) _ (c .refused .ensures) (e .before .make .ensures)
+          (e .if1 .taken),
+      demands,
+    )
 
 -- past the test the call is accepted
 accepted : (c : tie.Else1)
@@ -93,6 +100,7 @@ make-book-spec =
     tie.close
     (tie.spec
     make-requires
+    refused-requires
     returns
     slice-aggregate-states
     states-requires

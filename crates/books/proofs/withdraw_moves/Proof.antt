@@ -1,20 +1,10 @@
--- `books::withdraw_moves` meets its contract: a refused call changes nothing; an accepted one writes the book within
--- the allowed states that the old book keeps, for the old mask less the moves withdrawn, and lists the states that this
--- book loses. Assumes nothing.
-use denote.Ref.{now}
+-- `books::withdraw_moves` meets its contract: a refused call changes nothing, and an accepted one is carried out.
+-- Assumes nothing.
 use mathlib.Core.Path.{_≡_, sym, _∙_}
-use Prim.Native.Nat.{_≤_}
-use native.Mathlib.Omega.{arith}
-use lib.ListN.{length, take}
-use lib.Seq.{length-take-le}
-use lib.Bits.{and-le-l}
-use Rattle.statements.specs.Sets.{filter}
-use Rattle.statements.specs.Plants.{plantOf, allowed}
-use Rattle.statements.specs.Books.{bookKept}
+use denote.Ref.{now}
+use lib.ListN.{length}
 use Rattle.statements.specs.Calls.{withdrawFault}
-use Rattle.decoding.proofs.Faults.{WithdrawOk, withdraw-ok, states-few}
-use Rattle.writing.proofs.Solved.{written-fits}
-use Rattle.books.proofs.Made.{kept-few, struck, withdraw-refused, withdraw-done}
+use Rattle.books.proofs.Made.{writes-refused}
 use Rattle.books.proofs.Demands.{demands}
 use borrow.Author.Needs.{needs}
 use Rattle.books.proofs.withdraw_moves.Statement.{statement}
@@ -23,98 +13,31 @@ use Rattle.books.proofs.withdraw_moves.Tie as tie
 withdraw-requires : tie.Need-withdraw-requires
 withdraw-requires c κs = search needs
 
+refused-requires : tie.Need-refused-requires
+refused-requires c κs = search needs
+
 returns : tie.Need-returns
 returns c =
-    let a = c .before .before .before .before .before .before .args in (
-      withdraw-refused (now (a .plant)) (now (a .book)) (a .mask) (now (a .out)) (now (a .drops)) _
-          (c .before .withdraw .ensures) (c .if1 .taken),
+    let e = c .before in
+    let a = e .before .before .before .before .before .before .args in
+    let fault =
+    withdrawFault (now (a .plant)) (now (a .book)) (a .mask) (length (now (a .out))) (length (now (a .drops))) in (
+      record {
+        writes =
+            writes-refused _ fault _ _ (now (a .out)) (now (a .drops)) (c .refused .ensures)
+            (e .before .withdraw .ensures) (e .if1 .taken);
+      },
       demands,
     )
 
 -- past the test the call is accepted
-accepted : (c : tie.Else1)
+fine : (c : tie.Else1)
     → let a = c .before .before .before .before .before .before .args in
     withdrawFault (now (a .plant)) (now (a .book)) (a .mask) (length (now (a .out))) (length (now (a .drops))) ≡ 0
-accepted c = sym (c .before .withdraw .ensures) ∙ c .if1 .left
+fine c = sym (c .before .withdraw .ensures) ∙ c .if1 .left
 
-ok : (c : tie.Else1)
-    → let a = c .before .before .before .before .before .before .args in
-    WithdrawOk (now (a .plant)) (now (a .book)) (a .mask) (length (now (a .out))) (length (now (a .drops)))
-ok c =
-    let a = c .before .before .before .before .before .before .args in
-    withdraw-ok (now (a .plant)) (now (a .book)) (a .mask) (length (now (a .out))) (length (now (a .drops)))
-    (accepted c)
-
--- its plant's states are few
-few : (c : tie.Else1)
-    → plantOf (now (c .before .before .before .before .before .before .args .plant)) .states ≤ 1024
-few c = states-few (now (c .before .before .before .before .before .before .args .plant)) (ok c .plant)
-
-slice-aggregate-kept : tie.Need-slice-aggregate-kept
-slice-aggregate-kept c = search needs
-
-kept-requires : tie.Need-kept-requires
-kept-requires c κs =
-    let o = ok (c .before) in
-    (o .book, omega (arith, few (c .before), o .states))
-
-slice-aggregate-allowed : tie.Need-slice-aggregate-allowed
-slice-aggregate-allowed c = search needs
-
--- there is a place for each state that the old book keeps
-room : (c : tie.After-kept) → c .kept .result ≤ length (c .kept .last .1 .0)
-room c =
-    let e = c .before .before in
-    let most = kept-few (now (e .before .before .before .before .before .before .args .book)) in
-    omega (arith, c .kept .ensures .0, most, few e, ok e .states, c .kept .kept .1 .0)
-
-allowed-requires : tie.Need-allowed-requires
-allowed-requires c κs = room (c .before .before)
-
--- the allowed ones of them are left, at the front
-started : (c : tie.After-allowed)
-    → let a = c .before .before .before .before .before .before .before .before .before .before .before .args in
-    let list = c .allowed .last .1 .0 in
-    (c .allowed .result ≤ length list)
-    × (take (c .allowed .result) list ≡ filter (allowed (plantOf (now (a .plant)))) (bookKept (now (a .book))))
-started c =
-    let t = c .before .before .before in
-    struck _ _ (c .allowed .last .1 .0) _ _ (t .kept .ensures .1) (t .kept .ensures .0) (room t)
-    (c .allowed .ensures .0) (c .allowed .ensures .1)
-
-array-share-prefix-list : tie.Need-array-share-prefix-list
-array-share-prefix-list c = started (c .before .before) .0
-
-mask-requires : tie.Need-mask-requires
-mask-requires c κs = search needs
-
-sub-book : tie.Need-sub-book
-sub-book c = and-le-l _ _
-
-slice-aggregate-book : tie.Need-slice-aggregate-book
-slice-aggregate-book c = sym (length-take-le _ _ (started (c .before .before .before) .0))
-
-book-requires : tie.Need-book-requires
-book-requires c κs = search needs
-
-cast-dropped : tie.Need-cast-dropped
-cast-dropped c = search needs
-
--- the book written is no longer than its buffer
-within : (c : tie.After-slice-known3)
-    → let k = c .before .before in k .book .result ≤ length (k .book .last .1 .1 .1 .0)
-within c =
-    let k = c .before .before in
-    omega (arith, k .book .kept .1 .1 .1 .0, written-fits _ _ _ (k .book .ensures .0))
-
-slice-reshare-prefix-dropped : tie.Need-slice-reshare-prefix-dropped
-slice-reshare-prefix-dropped c = within c
-
-slice-aggregate-dropped : tie.Need-slice-aggregate-dropped
-slice-aggregate-dropped c = sym (length-take-le _ _ (within (c .before)))
-
-dropped-requires : tie.Need-dropped-requires
-dropped-requires c κs = search needs
+accepted-requires : tie.Need-accepted-requires
+accepted-requires c κs = fine (c .before .before)
 
 same-length : tie.Need-same-length
 same-length c = search needs
@@ -123,38 +46,16 @@ same-length-2 : tie.Need-same-length-2
 same-length-2 c = search needs
 
 returns-2 : tie.Need-returns-2
-returns-2 c =
-    let d = c .before .before in
-    let k = d .before .before .before .before .before in
-    let m = k .before .before .before in
-    let t = m .before .before in
-    let e = t .before .before .before .before .before in
-    let a = e .before .before .before .before .before .before .args in (
-      withdraw-done (now (a .plant)) (now (a .book)) (a .mask) (now (a .out)) (now (a .drops)) _ _ _ _ (accepted e)
-          (started t .1) (m .mask .ensures) (k .book .ensures .0) (k .book .ensures .1) (d .dropped .ensures .0)
-          (d .dropped .ensures .1),
-      demands,
-    )
+returns-2 c = (c .before .before .before .before .accepted .ensures, demands)
 
 pub withdraw-moves-spec : {M : Type 1} → statement M
 withdraw-moves-spec =
     tie.close
     (tie.spec
     withdraw-requires
+    refused-requires
     returns
-    slice-aggregate-kept
-    kept-requires
-    slice-aggregate-allowed
-    allowed-requires
-    mask-requires
-    sub-book
-    array-share-prefix-list
-    slice-aggregate-book
-    book-requires
-    cast-dropped
-    slice-reshare-prefix-dropped
-    slice-aggregate-dropped
-    dropped-requires
+    accepted-requires
     same-length
     same-length-2
     returns-2)

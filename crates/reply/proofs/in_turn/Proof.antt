@@ -1,14 +1,63 @@
--- `reply::in_turn` meets its contract: the first mask is refused, or makes the book from which the others withdraw.
--- Assumes nothing.
-use mathlib.Core.Path.{_∙_}
-use Rattle.reply.proofs.Steps.{make-standing}
-use Rattle.reply.proofs.Turns.{made-refused, made-goes}
+-- `reply::in_turn` meets its contract: a bad mask is refused, and otherwise the book is made that the masks come to in
+-- turn. Assumes nothing.
+use mathlib.Core.Path.{_≡_, sym, ap₂, _∙_}
+use native.Mathlib.Omega.{arith}
+use denote.Ref.{now}
+use lib.Bits.{and-le-l}
+use borrow.Author.Tests.{not-true, not-false}
+use Rattle.statements.specs.Plants.{plantOf}
+use Rattle.statements.specs.Books.{maskOk, masksOf, unionOf}
+use Rattle.reply.proofs.Turns.{masks-few, turned-refused, turned-made}
 use borrow.Author.Needs.{needs}
 use Rattle.reply.proofs.in_turn.Statement.{statement}
 use Rattle.reply.proofs.in_turn.Tie as tie
 
+number-requires : tie.Need-number-requires
+number-requires c κs = search needs
+
+cast-mask-ok : tie.Need-cast-mask-ok
+cast-mask-ok c = search needs
+
+union-requires : tie.Need-union-requires
+union-requires c κs = search needs
+
+mask-ok-requires : tie.Need-mask-ok-requires
+mask-ok-requires c κs = search needs
+
+-- the test of all masks
+masked : (c : tie.After-mask-ok)
+    → let a = c .before .before .before .before .before .before .args in
+    maskOk (plantOf (now (a .plant)) .moves) (unionOf (masksOf (now (a .masks)))) ≡ c .mask-ok .result
+unfolding plantOf
+masked c =
+    ap₂ maskOk (sym (c .before .before .number .ensures)) (sym (c .before .union .ensures)) ∙ sym (c .mask-ok .ensures)
+
+returns : tie.Need-returns
+returns c =
+    let s = c .before .before .before .before .before .before .before in
+    turned-refused (s .pre .1) _ (s .pre .0) _ (masked (c .before) ∙ not-true _ (c .if1 .taken))
+
 mask-at-requires : tie.Need-mask-at-requires
 mask-at-requires c κs = search needs
+
+sub-union : tie.Need-sub-union
+sub-union c =
+    let s = c .before .before .before .before .before .before .before .before in
+    omega (arith, masks-few _ (s .pre .0))
+
+part-union-start : tie.Need-part-union-start
+part-union-start c =
+    let s = c .before .before .before .before .before .before .before .before in
+    omega (arith, masks-few _ (s .pre .0))
+
+part-union-end : tie.Need-part-union-end
+part-union-end c = search needs
+
+union-requires-2 : tie.Need-union-requires-2
+union-requires-2 c κs = search needs
+
+sub-make-book : tie.Need-sub-make-book
+sub-make-book c = and-le-l _ _
 
 make-book-requires : tie.Need-make-book-requires
 make-book-requires c κs = search needs
@@ -16,47 +65,31 @@ make-book-requires c κs = search needs
 same-length : tie.Need-same-length
 same-length c = search needs
 
-returns : tie.Need-returns
-returns c =
-    let k = c .before .before .before in
-    let s = k .before .before .before .before .before .before .before .before in
-    made-refused (s .pre .1) _ (k .before .before .mask-at .ensures) (k .make-book .ensures .0) (c .if1 .taken)
-
-withdraw-others-requires : tie.Need-withdraw-others-requires
-withdraw-others-requires c κs =
-    let e = c .before .before .before in
-    let k = e .before .before .before in
-    let s = k .before .before .before .before .before .before .before .before in
-    (s .pre .0, make-standing (s .pre .1) _ (k .make-book .ensures .0) (e .if1 .left))
-
-same-length-2 : tie.Need-same-length-2
-same-length-2 c = search needs
-
-same-length-3 : tie.Need-same-length-3
-same-length-3 c = search needs
-
-same-length-4 : tie.Need-same-length-4
-same-length-4 c = search needs
-
 returns-2 : tie.Need-returns-2
 returns-2 c =
-    let w = c .before .before .before .before .before .before in
-    let e = w .before .before .before .before in
-    let k = e .before .before .before in
-    let s = k .before .before .before .before .before .before .before .before in
-    made-goes (s .pre .1) _ (k .before .before .mask-at .ensures) (k .make-book .ensures .0) (e .if1 .left) ∙
-    w .withdraw-others .ensures
+    let k = c .before .before in
+    let u = k .before .before in
+    let m = u .before .before in
+    let e = m .before in
+    let s = e .before .before .before .before .before .before .before in
+    turned-made (s .pre .1) _ (s .pre .0) (masked (e .before) ∙ not-false _ (e .if1 .left)) (m .mask-at .ensures)
+    (u .union2 .ensures) (k .make-book .ensures .0)
 
 pub in-turn-spec : {M : Type 1} → statement M
 in-turn-spec =
     tie.close
     (tie.spec
+    number-requires
+    cast-mask-ok
+    union-requires
+    mask-ok-requires
+    returns
     mask-at-requires
+    sub-union
+    part-union-start
+    part-union-end
+    union-requires-2
+    sub-make-book
     make-book-requires
     same-length
-    returns
-    withdraw-others-requires
-    same-length-2
-    same-length-3
-    same-length-4
     returns-2)

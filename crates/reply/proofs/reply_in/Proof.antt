@@ -17,37 +17,25 @@ same-length c = search needs
 same-length-2 : tie.Need-same-length-2
 same-length-2 c = search needs
 
+returns : tie.Need-returns
+returns c =
+    let t = c .before .before .before .before in
+    let i = t .before .before .before in
+    told _ (text-refused _ (i .in-turn .ensures) (t .if1 .taken)) (c .before .before .refused-text .ensures)
+
+list-book-requires : tie.Need-list-book-requires
+list-book-requires c κs = search needs
+
 same-length-3 : tie.Need-same-length-3
 same-length-3 c = search needs
 
 same-length-4 : tie.Need-same-length-4
 same-length-4 c = search needs
 
-returns : tie.Need-returns
-returns c =
-    let t = c .before .before .before .before in
-    let i = t .before .before .before .before .before .before .before in
-    told _ (text-refused _ (i .in-turn .ensures) (t .if1 .taken)) (c .before .before .refused-text .ensures)
-
-list-book-requires : tie.Need-list-book-requires
-list-book-requires c κs = search needs
-
-same-length-5 : tie.Need-same-length-5
-same-length-5 c = search needs
-
-same-length-6 : tie.Need-same-length-6
-same-length-6 c = search needs
-
-same-length-7 : tie.Need-same-length-7
-same-length-7 c = search needs
-
-same-length-8 : tie.Need-same-length-8
-same-length-8 c = search needs
-
 returns-2 : tie.Need-returns-2
 returns-2 c =
     let e = c .before .before .before .before .before in
-    let i = e .before .before .before .before .before .before .before in
+    let i = e .before .before .before in
     told _ (text-listed _ (i .in-turn .ensures) (e .if1 .left)) (c .before .before .list-book .ensures)
 
 pub reply-in-spec : {M : Type 1} → statement M
@@ -58,12 +46,8 @@ reply-in-spec =
     refused-text-requires
     same-length
     same-length-2
-    same-length-3
-    same-length-4
     returns
     list-book-requires
-    same-length-5
-    same-length-6
-    same-length-7
-    same-length-8
+    same-length-3
+    same-length-4
     returns-2)
