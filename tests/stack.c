@@ -1,6 +1,6 @@
 /*
- * How much stack the calls take: all seven run on a stack of their own that is painted first, and what they overwrote is
- * counted. Prints the figure; fails at 256 KiB or more. The plant is the largest there is.
+ * How much stack the calls take: all seven run on a stack of their own that is painted first, and what they overwrote
+ * is counted. Prints the figure; fails at 256 KiB or more. The plant is the largest there is.
  */
 #include <stdio.h>
 #include <string.h>
@@ -39,9 +39,11 @@ static void calls(void) {
     planbook_answer gone =
         planbook_withdraw(plant, sizeof plant, book, made.length, 1, out, sizeof out, drops, sizeof drops);
     refusals += made.number + cost.number + gone.number;
-    refusals += planbook_withdraw_list(plant, sizeof plant, book, made.length, masks, sizeof masks, out, sizeof out,
-                                       drops, sizeof drops)
-                    .number;
+    planbook_answer list = planbook_withdraw_list(plant, sizeof plant, book, made.length, masks, sizeof masks, out,
+                                                  sizeof out, drops, sizeof drops);
+    planbook_answer none = /* an empty list may be null */
+        planbook_withdraw_list(plant, sizeof plant, book, made.length, NULL, 0, out, sizeof out, drops, sizeof drops);
+    refusals += list.number + none.number;
     refusals += planbook_consult(out, gone.length, 1023, 7).number + planbook_row(out, gone.length, 1023).number;
     refusals += planbook_moves(plant, sizeof plant, out, gone.length, 1023, 7).number;
 }
