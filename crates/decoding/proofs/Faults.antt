@@ -237,7 +237,7 @@ module _ (s b m : List ℕ) (room drops : ℕ) where
         let later = first-iff (masksFault (plantOf s) m) _ .0 (all .1) in
         (all .0, later .0, later .1)
 
-    -- it is whole, and each mask is one of the plant's moves
+    -- it is whole, and each mask names moves of the plant alone
     pub list-masks : (wholeMasks m ≡ true) × (eachOk (plantOf s .moves) (masksOf m) ≡ true)
     unfolding masksFault
     list-masks =

@@ -14,6 +14,10 @@ use Rattle.statements.specs.Books.{maskAt, masksIn, masksOf, unionOf}
 use Rattle.sets.proofs.Tests.{decided}
 use Rattle.sets.proofs.Bits.{or-assoc}
 
+-- the part of a list from a place on
+pub rest-is : (m : List ℕ) (at : ℕ) → take (length m - at) (drop at m) ≡ drop at m
+rest-is m at = rw (← length-drop) (take-length (drop at m))
+
 -- before the mask that starts at a place
 pub record Joined (m : List ℕ) (all at : ℕ) : Type 0 where
   pub within : at ≤ length m
@@ -31,13 +35,12 @@ pub joined-more : {m : List ℕ} {all at mask : ℕ} → Joined m all at → 4 �
 unfolding masksIn unionOf
 joined-more {m} {all} {at} {mask} j more e =
     let n = (length m - (at + 4)) / 4 in
-    let rest : take (length m - at) (drop at m) ≡ drop at m = rw (← length-drop) (take-length (drop at m)) in
     let count : (length m - at) / 4 ≡ suc n = omega (arith, j .within) in
     record {
       within = omega (arith, j .within);
       same =
           or-assoc all mask (unionOf (masksIn n (drop (at + 4) m)))
-          ∙ rw (e, rest, ← drop-drop)
+          ∙ rw (e, rest-is m at, ← drop-drop)
           (ap (λ k. bitOr all (unionOf (masksIn k (drop at m)))) (sym count) ∙ j .same);
     }
 

@@ -90,7 +90,7 @@ fn whole_masks(masks: &[u8]) -> bool
 }
 
 // What a list of withdrawals returns: 1 to 5, 9, 6, 7, or 0 when it is accepted. One of its masks has a bit at U or
-// above just when all of them joined do.
+// above just when all of them joined have one.
 pub fn withdraw_list(plant: &[u8], book: &[u8], masks: &[u8], room: usize, drops: usize) -> u8
     ensures { λ r. ⌜ r
         ≡ withdrawListFault (now (plant .entry)) (now (book .entry)) (now (masks .entry)) room drops ⌝ }

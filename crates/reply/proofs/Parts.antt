@@ -6,10 +6,11 @@ use mathlib.Core.List.{List, [], _∷_}
 use Prim.Native.Nat.{ℕ, zero, suc, _-_, _≤_, _<_}
 use native.Mathlib.Nat.{le-refl}
 use native.Mathlib.Omega.{arith}
-use lib.ListN.{length, take, drop, length-drop}
+use lib.ListN.{length, take, drop}
 use lib.Seq.{take-all}
 use borrow.Author.Tests.{eq-eqb, ne-eqb}
 use Rattle.statements.specs.Plants.{word, plantOf, plantFault}
+use Rattle.format.proofs.Unions.{rest-is}
 use Rattle.listing.specs.Text.{listing, refusedText, badMasksText}
 use Rattle.listing.specs.Buffers.{placed, placedLong}
 use Rattle.reply.specs.Reply.{plantPart, maskPart, masksOk, Outcome, inTurn, outcomeText, masksText, replyTo}
@@ -71,7 +72,7 @@ module _ {input : List ℕ} {end : ℕ} (parted : Parted input end) where
 
   -- it is the masks' part
   rest-masks : Rest ≡ maskPart input
-  rest-masks = take-all (length input - end) (drop end input) (simp length-drop (omega arith)) ∙ parted .masks
+  rest-masks = rest-is input end ∙ parted .masks
 
   module _ (accepted : plantFault (take end input) ≡ 0) where
     -- the plant's part is accepted

@@ -7,7 +7,7 @@ use Prim.Native.Nat.{ℕ, zero, suc, _-_, _/_, _%_, _≤_}
 use native.Mathlib.Omega.{arith}
 use lib.Bits.{bitAnd}
 use lib.ListN.{length, take, drop, length-drop}
-use lib.Seq.{take-length, drop-length}
+use lib.Seq.{drop-length}
 use borrow.Author.Tests.{leb-true, le-leb, eq-eqb, eqb-true, ne-eqb}
 use Rattle.statements.specs.Sets.{over}
 use Rattle.statements.specs.Plants.{Plant, firstOf, plantOf, allowed}
@@ -18,7 +18,7 @@ use Rattle.decoding.proofs.Masks.{less-ok, union-ok}
 use Rattle.decoding.proofs.Faults.{plant-ok, make-told}
 use Rattle.demands.proofs.Afresh.{in-turn-afresh}
 use Rattle.demands.proofs.InTurn.{first-mask}
-use Rattle.format.proofs.Unions.{union-is}
+use Rattle.format.proofs.Unions.{rest-is, union-is}
 use Rattle.books.specs.declared.Answer.{Answer}
 use Rattle.books.specs.Says.{MakeSays}
 use Rattle.books.proofs.Made.{within-length}
@@ -38,8 +38,7 @@ module _ (m : List ℕ) where
   unfolding otherMasks
   others-union =
       let count : (length m - 4) / 4 ≡ length m / 4 - 1 = omega arith in
-      let rest : take (length m - 4) (drop 4 m) ≡ drop 4 m = rw (← length-drop) (take-length (drop 4 m)) in
-      ap (λ (l : List ℕ). unionOf (masksOf l)) rest ∙ sym (union-is (drop 4 m)) ∙ rw (length-drop, count)
+      ap (λ (l : List ℕ). unionOf (masksOf l)) (rest-is m 4) ∙ sym (union-is (drop 4 m)) ∙ rw (length-drop, count)
 
   module _ (good : masksOk m ≡ true) where
     -- good masks are the first and the others

@@ -24,8 +24,8 @@ fn masks_ok(masks: &[u8]) -> bool
     (4 <= masks.len()) & ((masks.len() <= 64) & (masks.len() % 4 == 0))
 }
 
-// The masks in turn, the first of which makes and the others withdraw. The book that they come to is the one made afresh
-// with the moves then in service, so it is made once. Returns a refusal's number or 0.
+// The masks in turn, the first of which makes and the others withdraw. The book that they come to is the one made
+// afresh with the moves then in service, so it is made once. Returns a refusal's number or 0.
 fn in_turn(plant: &[u8], masks: &[u8], book: &mut [u8]) -> u8
     requires good { ⌜ masksOk (now masks) ≡ true ⌝ }
     requires ready { ⌜ Ready (now plant) (now book) ⌝ }
