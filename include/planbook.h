@@ -18,7 +18,8 @@
  *      the number of rows that are not lost
  *   9  the list of masks has a length that is not a multiple of 4 or is above 64 bytes
  *   6  the mask given, or any mask of the list, has a bit at U or above
- *   7  the book buffer is under 16 + 4SN bytes, or the drop buffer under 2S; preview has the drop buffer alone
+ *   7  the book buffer is under 16 + 4SN bytes, or the drop buffer, or that for the states gained, under 2S; preview
+ *      has the drop buffer alone
  *   8  the state is not below S, or the goal not below N
  *
  * Buffers must not overlap: neither each other nor what is lent for reading. A buffer that is lent for writing keeps
@@ -34,17 +35,17 @@
 extern "C" {
 #endif
 
-/* The longest plant and the longest book, what a drop buffer needs at most, and the longest list of masks. */
+/* The longest plant and the longest book, what a list of states needs at most, and the longest list of masks. */
 #define PLANBOOK_PLANT_MAX 51216u
 #define PLANBOOK_BOOK_MAX 32784u
 #define PLANBOOK_DROPS_MAX 2048u
 #define PLANBOOK_MASKS_MAX 64u
 
-/* What make, withdraw and withdraw_list answer. */
+/* What make, withdraw, withdraw_list and return answer. */
 typedef struct {
     uint32_t number; /* 0, or why it was refused */
     uint32_t length; /* bytes of the book written, from the buffer's first byte on */
-    uint32_t drops;  /* states dropped, two bytes each, from the drop buffer's first byte on; 0 in make */
+    uint32_t drops;  /* states listed, two bytes each, from the list buffer's first byte on; 0 in make */
 } planbook_answer;
 
 /* What preview answers. */
@@ -100,6 +101,16 @@ planbook_answer planbook_withdraw(const uint8_t *plant, size_t plant_len, const 
 planbook_answer planbook_withdraw_list(const uint8_t *plant, size_t plant_len, const uint8_t *book, size_t book_len,
                                        const uint8_t *masks, size_t masks_len, uint8_t *out, size_t out_len,
                                        uint8_t *drops, size_t drops_len);
+
+/*
+ * Puts the moves of a mask back in service and writes the new book to out: that of a make with the moves of the book
+ * handed in and those returned. Which states that book keeps has no part in it. The states kept now and not before are
+ * written to gained by rising number, each as a two-byte number, the low byte first; answer.drops counts them. A state
+ * kept before and lost now, as there may be if no call wrote the book handed in, is not listed. To return a move that is
+ * in service has no effect. Refused as withdraw is, the buffer gained needing 2S bytes. Refusals 1 to 7.
+ */
+planbook_answer planbook_return(const uint8_t *plant, size_t plant_len, const uint8_t *book, size_t book_len,
+                                uint32_t mask, uint8_t *out, size_t out_len, uint8_t *gained, size_t gained_len);
 
 /*
  * What a lock-out would cost, before it is done: withdraws nothing and writes no book. The number dropped, the states

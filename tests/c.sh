@@ -1,8 +1,8 @@
 #!/usr/bin/env bash
 # The C interface: the header and the example compile without a warning, in C and in C++, and the example prints what
 # document 01 says of M2, with the good moves of request (i), some moves by the book with the goals of request (v), the
-# preview of request (iv) and a list of withdrawals of request (vi) with its drop list; under valgrind, where it is
-# installed, without a report. The calls' stack is measured.
+# preview of request (iv), a list of withdrawals of request (vi) with its drop list and a return of request (vii) with
+# the states gained; under valgrind, where it is installed, without a report. The calls' stack is measured.
 set -euo pipefail
 cd "$(dirname "$0")/.."
 [ -f target/staticlib/libplanbook_c.a ] || rt staticlib planbook_c >target/staticlib.log 2>&1

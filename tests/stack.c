@@ -1,5 +1,5 @@
 /*
- * How much stack the calls take: all seven run on a stack of their own that is painted first, and what they overwrote
+ * How much stack the calls take: all eight run on a stack of their own that is painted first, and what they overwrote
  * is counted. Prints the figure; fails at 256 KiB or more. The plant is the largest there is.
  */
 #include <stdio.h>
@@ -11,7 +11,7 @@
 enum { ROOM = 1 << 20, PAINT = 0xA5, STATES = 1024, ARROWS = 8192 };
 
 static uint8_t stack[ROOM], plant[PLANBOOK_PLANT_MAX], book[PLANBOOK_BOOK_MAX], out[PLANBOOK_BOOK_MAX];
-static uint8_t drops[PLANBOOK_DROPS_MAX], masks[PLANBOOK_MASKS_MAX];
+static uint8_t out_again[PLANBOOK_BOOK_MAX], drops[PLANBOOK_DROPS_MAX], masks[PLANBOOK_MASKS_MAX];
 static ucontext_t main_context, call_context;
 static unsigned refusals;
 
@@ -43,7 +43,9 @@ static void calls(void) {
                                                   sizeof out, drops, sizeof drops);
     planbook_answer none = /* an empty list may be null */
         planbook_withdraw_list(plant, sizeof plant, book, made.length, NULL, 0, out, sizeof out, drops, sizeof drops);
-    refusals += list.number + none.number;
+    planbook_answer back =
+        planbook_return(plant, sizeof plant, out, none.length, 1, out_again, sizeof out_again, drops, sizeof drops);
+    refusals += list.number + none.number + back.number;
     refusals += planbook_consult(out, gone.length, 1023, 7).number + planbook_row(out, gone.length, 1023).number;
     refusals += planbook_moves(plant, sizeof plant, out, gone.length, 1023, 7).number;
 }

@@ -1,7 +1,7 @@
 /*
  * Strip plant P of the request: makes its book, withdraws move 2, asks in each state what to do for goal 0 and which
- * moves are good, and follows the book for some moves; then looks at what it would cost to withdraw move 0, and
- * withdraws a list, move 1 and then move 0, and prints the drop list.
+ * moves are good, and follows the book for some moves; then looks at what it would cost to withdraw move 0, withdraws a
+ * list, move 1 and then move 0, and prints the drop list; at last returns move 0 and prints the states that come back.
  */
 #include <stdio.h>
 
@@ -19,7 +19,7 @@ static const uint16_t numbers[36] = {
     1, 0, 2, 1, 1, 3, 1, 2, 0, 2, 0, 0, 2, 2, 1,
 };
 
-static uint8_t plant[72], drops[8];
+static uint8_t plant[72], list[8];
 
 /* Writes P's numbers as bytes, the low byte first. */
 static void pack(void) {
@@ -29,11 +29,11 @@ static void pack(void) {
     }
 }
 
-/* The states in the drop buffer, by rising number. */
-static void print_drops(uint32_t count) {
-    printf("%u dropped", (unsigned)count);
+/* The states in the list buffer, by rising number, and what became of them. */
+static void print_states(uint32_t count, const char *what) {
+    printf("%u %s", (unsigned)count, what);
     for (uint32_t i = 0; i < count; i++) {
-        printf("%s %u", i == 0 ? ":" : ",", drops[2 * i] + 256u * drops[2 * i + 1]);
+        printf("%s %u", i == 0 ? ":" : ",", list[2 * i] + 256u * list[2 * i + 1]);
     }
     printf("\n");
 }
@@ -48,12 +48,12 @@ static int refused(const char *call, uint32_t number) {
 
 /* Writes the book without the moves of a mask, and says which states that drops. Answers whether it was refused. */
 static int withdraw(const char *which, const uint8_t *book, uint32_t mask, uint8_t *out) {
-    planbook_answer answer = planbook_withdraw(plant, sizeof plant, book, BOOK, mask, out, BOOK, drops, sizeof drops);
+    planbook_answer answer = planbook_withdraw(plant, sizeof plant, book, BOOK, mask, out, BOOK, list, sizeof list);
     if (refused("withdraw", answer.number)) {
         return 1;
     }
     printf("withdrew %s: %u bytes, ", which, (unsigned)answer.length);
-    print_drops(answer.drops);
+    print_states(answer.drops, "dropped");
     return 0;
 }
 
@@ -61,23 +61,34 @@ static int withdraw(const char *which, const uint8_t *book, uint32_t mask, uint8
 static int withdraw_both(const char *which, const uint8_t *book, uint8_t first, uint8_t second, uint8_t *out) {
     const uint8_t masks[8] = {first, 0, 0, 0, second, 0, 0, 0}; /* four bytes each, the low byte first */
     planbook_answer answer = planbook_withdraw_list(plant, sizeof plant, book, BOOK, masks, sizeof masks, out, BOOK,
-                                                    drops, sizeof drops);
+                                                    list, sizeof list);
     if (refused("withdraw_list", answer.number)) {
         return 1;
     }
     printf("withdrew %s: %u bytes, ", which, (unsigned)answer.length);
-    print_drops(answer.drops);
+    print_states(answer.drops, "dropped");
+    return 0;
+}
+
+/* Writes the book with the moves of a mask back in service, and says which states that gains. */
+static int put_back(const char *which, const uint8_t *book, uint32_t mask, uint8_t *out) {
+    planbook_answer answer = planbook_return(plant, sizeof plant, book, BOOK, mask, out, BOOK, list, sizeof list);
+    if (refused("return", answer.number)) {
+        return 1;
+    }
+    printf("returned %s: %u bytes, ", which, (unsigned)answer.length);
+    print_states(answer.drops, "gained"); /* of a return the answer's drops are the states gained */
     return 0;
 }
 
 /* Says what it would cost to withdraw the moves of a mask. Answers whether it was refused. */
 static int preview(const char *which, const uint8_t *book, uint32_t mask) {
-    planbook_cost cost = planbook_preview(plant, sizeof plant, book, BOOK, mask, drops, sizeof drops);
+    planbook_cost cost = planbook_preview(plant, sizeof plant, book, BOOK, mask, list, sizeof list);
     if (refused("preview", cost.number)) {
         return 1;
     }
     printf("to withdraw %s would leave %u kept, ", which, (unsigned)cost.kept);
-    print_drops(cost.drops);
+    print_states(cost.drops, "dropped");
     return 0;
 }
 
@@ -121,7 +132,7 @@ static void follow(const uint8_t *book, int moves) {
 }
 
 int main(void) {
-    uint8_t made[BOOK], patched[BOOK], again[BOOK];
+    uint8_t made[BOOK], patched[BOOK], none[BOOK], again[BOOK];
     pack();
 
     if (refused("make", planbook_make(plant, sizeof plant, 7, made, BOOK).number) ||
@@ -130,7 +141,8 @@ int main(void) {
     }
     print_advice(patched);
     follow(patched, 4);
-    if (preview("move 0 too", patched, 1) || withdraw_both("move 1 and then move 0", patched, 2, 1, again)) {
+    if (preview("move 0 too", patched, 1) || withdraw_both("move 1 and then move 0", patched, 2, 1, none) ||
+        put_back("move 0", none, 1, again)) {
         return 1;
     }
     return planbook_consult(again, BOOK, 4, 0).number == 8 ? 0 : 1;

@@ -37,5 +37,6 @@ determined =
       make = λ h k. (same-answer (cc) (cc) (cc), cc);
       withdraw = λ h k. same-written (h .writes) (k .writes);
       withdraw-list = λ h k. same-written (h .writes) (k .writes);
+      return-moves = λ h k. same-written (h .writes) (k .writes);
       preview = λ h k. (same-cost (cc) (cc) (cc), cc);
     }

@@ -8,5 +8,6 @@ pub mod Previewed
 pub mod Determined
 pub mod Traces
 pub mod InTurn
+pub mod Returning
 pub mod Walked
 pub mod Demands

@@ -1,6 +1,7 @@
--- The drop list as it is read: the drop buffer has the dropped states, two bytes each, and past them what it had.
--- Assumes nothing.
+-- A list of states as it is read: the drop buffer has the states dropped, or gained, two bytes each, and past them what
+-- it had. Assumes nothing.
 use mathlib.Core.Path.{_≡_, refl, sym, ap, ap₂, _∙_}
+use mathlib.Core.Bool.{true}
 use mathlib.Core.List.{List, [], _∷_, _++_}
 use Prim.Native.Nat.{ℕ, _+_, _*_, _/_, _%_}
 use native.Mathlib.Omega.{arith}
@@ -9,15 +10,16 @@ use lib.Seq.{drop-at}
 use borrow.Author.Tests.{eq-eqb}
 use Rattle.statements.specs.Sets.{over}
 use Rattle.statements.specs.Plants.{word, words, plantOf}
-use Rattle.statements.specs.Books.{two, bytesOf, withdrawnBook, droppedStates}
-use Rattle.statements.specs.Calls.{withdrawFault}
+use Rattle.statements.specs.Books.{two, bytesOf, bookStates, withdrawnBook, returnedBook, droppedStates}
+use Rattle.statements.specs.Calls.{dropRoom}
 use Rattle.sets.proofs.Over.{over-length, over-back}
 use Rattle.decoding.proofs.Faults.{withdraw-ok}
-use Rattle.demands.proofs.Demand2.{demand-2}
+use Rattle.demands.proofs.Demand2.{dropped-iff, dropped-rising}
+use Rattle.demands.proofs.Returning.{gained-dropped, returning}
 use Rattle.writing.proofs.Written.{bytes-length}
 use Rattle.writing.proofs.Drops.{dropped-few}
 use Rattle.books.specs.declared.Answer.{Answer}
-use Rattle.books.specs.Says.{Writes, WithdrawSays, Lists}
+use Rattle.books.specs.Says.{Writes, WithdrawSays, ReturnSays, Lists}
 use Rattle.books.proofs.Made.{drops-fit}
 
 -- numbers read back from their bytes
@@ -43,28 +45,22 @@ module _ (xs d : List ℕ) where
 pub list-read : (xs d d′ : List ℕ) (n : ℕ) → n ≡ length xs → d′ ≡ over (bytesOf xs) d → words n d′ ≡ xs
 list-read xs d d′ n count list = rw (count, list) (over-read xs d)
 
--- the states that an accepted withdrawal drops, so written
-module _ (s b : List ℕ) (gone room : ℕ) (d d′ : List ℕ) (n : ℕ)
-    (fine : withdrawFault s b gone room (length d) ≡ 0)
-    (count : n ≡ length (droppedStates b (withdrawnBook (plantOf s) b gone)))
-    (list : d′ ≡ over (bytesOf (droppedStates b (withdrawnBook (plantOf s) b gone))) d) where
-  abbrev Dropped : List ℕ
-  Dropped = droppedStates b (withdrawnBook (plantOf s) b gone)
-
-  -- the drop list
-  pub lists : Lists s b (withdrawnBook (plantOf s) b gone) d d′ n
+-- the states kept in one book and lost in another, so written with room for every state
+module _ (s one other d d′ : List ℕ) (n : ℕ) (states : bookStates one ≡ plantOf s .states)
+    (room : dropRoom (plantOf s) (length d) ≡ true) (count : n ≡ length (droppedStates one other))
+    (list : d′ ≡ over (bytesOf (droppedStates one other)) d) where
+  pub lists : Lists s one other d d′ n
   lists =
-      let ok = withdraw-ok s b gone room (length d) fine in
-      let fits = drops-fit (plantOf s) (length d) (ok .drops-ok) in
-      let read = list-read Dropped d d′ n count list in
+      let dropped = droppedStates one other in
+      let fits = drops-fit (plantOf s) (length d) room in
+      let read = list-read dropped d d′ n count list in
       record {
-        dropped = λ x. rw read (demand-2 .dropped s b gone room (length d) fine x);
-        rising = rw read (demand-2 .rising b (withdrawnBook (plantOf s) b gone));
+        listed = λ x. rw read (rw states at (dropped-iff one other x));
+        rising = rw read (dropped-rising one other);
         size =
             ap length list
-            ∙ over-length (bytesOf Dropped) d
-            (rw bytes-length (omega (arith, dropped-few b (withdrawnBook (plantOf s) b gone), ok .lent .states)));
-        past = rw (count, list) (over-past Dropped d);
+            ∙ over-length (bytesOf dropped) d (rw bytes-length (omega (arith, dropped-few one other, states)));
+        past = rw (count, list) (over-past dropped d);
       }
 
 -- what an accepted call that writes a book and lists states returns, and leaves in its buffers
@@ -91,5 +87,19 @@ pub lists-dropped : {s b : List ℕ} {gone : ℕ} {o o′ d d′ : List ℕ} {r 
     → WithdrawSays s b gone o o′ d d′ r → r .number ≡ 0 → Lists s b (take (r .length) o′) d d′ (r .drops)
 lists-dropped {s} {b} {gone} {o} {o′} {d} {d′} {r} says z =
     let w = says .writes in
+    let ok = withdraw-ok s b gone (length o) (length d) (no-fault w z) in
     rw (book-read w z)
-    (lists s b gone (length o) d d′ (r .drops) (no-fault w z) (drops-are w z) (list-is w z))
+    (lists s b (withdrawnBook (plantOf s) b gone) d d′ (r .drops) (ok .lent .states) (ok .drops-ok) (drops-are w z)
+    (list-is w z))
+
+-- and that of an accepted return
+pub lists-gained : {s b : List ℕ} {back : ℕ} {o o′ d d′ : List ℕ} {r : Answer}
+    → ReturnSays s b back o o′ d d′ r → r .number ≡ 0 → Lists s (take (r .length) o′) b d d′ (r .drops)
+lists-gained {s} {b} {back} {o} {o′} {d} {d′} {r} says z =
+    let w = says .writes in
+    let fine = no-fault w z in
+    let after = returnedBook (plantOf s) b back in
+    let same = gained-dropped b after in
+    rw (book-read w z)
+    (lists s after b d d′ (r .drops) (returning .right s b back (length o) (length d) fine .is-book .states)
+    (withdraw-ok s b back (length o) (length d) fine .drops-ok) (rw same at (drops-are w z)) (rw same at (list-is w z)))

@@ -1,5 +1,5 @@
--- Making and withdrawing: the book within a list of states, and what the calls answer, refused and accepted. Assumes
--- nothing.
+-- Making, withdrawing and returning: the book within a list of states, and what the calls answer, refused and accepted.
+-- Assumes nothing.
 use mathlib.Core.Path.{_≡_, refl, sym, ap, _∙_}
 use mathlib.Core.Bool.{Bool, true, _&&_, not, and-comm}
 use mathlib.Core.List.{List}
@@ -7,18 +7,19 @@ use Prim.Native.Nat.{ℕ, _-_, _*_, _≤_}
 use native.Mathlib.Omega.{arith}
 use lib.ListN.{length, take}
 use lib.Seq.{length-take-le}
-use lib.Bits.{bitAnd}
-use borrow.Author.Tests.{ne-eqb, leb-true}
+use lib.Bits.{bitAnd, bitOr}
+use borrow.Author.Tests.{eq-eqb, ne-eqb, leb-true}
 use Rattle.statements.specs.Sets.{numbers, filter, over}
 use Rattle.statements.specs.Plants.{Plant, plantOf, plantFault, allowed}
 use Rattle.statements.specs.Kept.{keptWithin}
-use Rattle.statements.specs.Books.{bookBytes, bookLong, bookStates, bookMask, isLost, bookKept, lessMask, bookWithin}
-use Rattle.statements.specs.Books.{madeBook, keptBefore, withdrawnBook}
-use Rattle.statements.specs.Calls.{bookRoom, dropRoom, makeFault, withdrawFault}
+use Rattle.statements.specs.Books.{bytesOf, bookBytes, bookLong, bookStates, bookMask, isLost, bookKept, lessMask, bookWithin}
+use Rattle.statements.specs.Books.{madeBook, keptBefore, withdrawnBook, returnedBook}
+use Rattle.statements.specs.Calls.{bookRoom, dropRoom, makeFault, withdrawFault, returnFault}
 use Rattle.sets.proofs.Members.{filter-same, filter-filter, filter-length, length-numbers}
 use Rattle.sets.proofs.Over.{over-back}
-use Rattle.decoding.proofs.Faults.{make-ok, withdraw-ok}
+use Rattle.decoding.proofs.Faults.{withdraw-ok}
 use Rattle.decoding.proofs.Header.{book-length}
+use Rattle.demands.proofs.Returning.{gained-dropped, returning}
 use Rattle.arrays.specs.Lists.{among}
 use Rattle.arrays.proofs.Ordered.{filter-rising}
 use Rattle.arrays.proofs.Sieves.{over-done}
@@ -26,7 +27,7 @@ use Rattle.writing.specs.Written.{writtenLong, writtenBook, droppedCount, writt
 use Rattle.writing.proofs.Solved.{can-write, written}
 use Rattle.writing.proofs.Drops.{room-listed}
 use Rattle.books.specs.declared.Answer.{Answer}
-use Rattle.books.specs.Says.{MakeSays, Writes, WithdrawSays}
+use Rattle.books.specs.Says.{MakeSays, Writes, WithdrawSays, ReturnSays}
 use Rattle.books.proofs.Started.{kept-same}
 
 module _ (p : Plant) (mask : ℕ) (test : ℕ → Bool) where
@@ -93,6 +94,24 @@ kept-before p b e =
     ∙ filter-same (λ x. not (isLost b x) && allowed p x) (λ x. allowed p x && not (isLost b x)) (numbers (p .states) 0)
     (λ x m. and-comm (not (isLost b x)) (allowed p x)))
 
+-- the book of a making is the one within the allowed states
+pub made-written : (s : List ℕ) (mask : ℕ) (start o : List ℕ) {long : ℕ} {o′ : List ℕ} → plantFault s ≡ 0
+    → bookRoom (plantOf s) (length o) ≡ true
+    → start ≡ filter (allowed (plantOf s)) (numbers (plantOf s .states) 0)
+    → long ≡ writtenLong s start o → o′ ≡ writtenBook s mask start o
+    → (long ≡ length (madeBook (plantOf s) mask)) × (o′ ≡ over (madeBook (plantOf s) mask) o)
+unfolding madeBook
+made-written s mask start o fine room h el eo =
+    let p = plantOf s in
+    let w = within-written s mask (allowed p) start o h fine room in
+    (el ∙ w .0 ∙ sym (within-length p mask (allowed p)), eo ∙ w .1)
+
+-- and is no longer than a buffer with room for it
+pub made-fits : (p : Plant) (mask : ℕ) {long : ℕ} (room : ℕ) → bookRoom p room ≡ true → long ≡ length (madeBook p mask)
+    → long ≤ room
+unfolding madeBook
+made-fits p mask room h e = omega (arith, e, within-length p mask (allowed p), book-fits p room h)
+
 -- what make answers
 module _ (s : List ℕ) (mask : ℕ) (o : List ℕ) where
   -- refused
@@ -102,22 +121,19 @@ module _ (s : List ℕ) (mask : ℕ) (o : List ℕ) where
       let no = ne-eqb n 0 h in
       rw e (record { number = en; length-is = rw no; drops = refl; book = rw no })
 
-  -- accepted: the book within the allowed states is written
-  pub make-done : (start : List ℕ) (long : ℕ) {o′ : List ℕ} → makeFault s mask (length o) ≡ 0
-      → start ≡ filter (allowed (plantOf s)) (numbers (plantOf s .states) 0)
-      → long ≡ writtenLong s start o → o′ ≡ writtenBook s mask start o
+  -- accepted: its book is written
+  pub make-done : (long : ℕ) {o′ : List ℕ} → makeFault s mask (length o) ≡ 0
+      → long ≡ length (madeBook (plantOf s) mask) → o′ ≡ over (madeBook (plantOf s) mask) o
       → MakeSays s mask o o′ (record { number = 0; length = long; drops = 0 })
-  unfolding madeBook
-  make-done start long e h el eo =
-      let p = plantOf s in
-      let ok = make-ok s mask (length o) e in
-      let w = within-written s mask (allowed p) start o h (ok .plant) (ok .room-ok) in
-      record {
-        number = sym e;
-        length-is = el ∙ w .0 ∙ sym (within-length p mask (allowed p));
-        drops = refl;
-        book = eo ∙ w .1;
-      }
+  make-done long e el eo = record { number = sym e; length-is = el; drops = refl; book = eo }
+
+-- the book of an accepted make, as it is read
+pub made-read : {s o o′ : List ℕ} {mask : ℕ} {r : Answer} → MakeSays s mask o o′ r → r .number ≡ 0
+    → take (r .length) o′ ≡ madeBook (plantOf s) mask
+made-read {s} {o} {o′} {mask} {r} says z =
+    let q = eq-eqb (r .number) 0 z in
+    ap (take (r .length)) (rw q at (says .book))
+    ∙ over-back (madeBook (plantOf s) mask) o (r .length) (rw q at (says .length-is))
 
 -- the length of the book of a withdrawal
 pub withdrawn-length : (p : Plant) (b : List ℕ) (gone : ℕ)
@@ -175,3 +191,35 @@ module _ (s b : List ℕ) (gone : ℕ) (o d : List ℕ) where
               list = rw back at ed ∙ gone-states .1;
             };
       }
+
+-- what a return answers when it is accepted: the book of a making for the old mask and the moves returned is written,
+-- and the states gained, by what is read back of it
+pub return-done : {s b : List ℕ} {back : ℕ} {o o′ d d′ : List ℕ} (old long count : ℕ)
+    → returnFault s b back (length o) (length d) ≡ 0
+    → old ≡ bookMask b
+    → long ≡ length (madeBook (plantOf s) (bitOr old back)) → o′ ≡ over (madeBook (plantOf s) (bitOr old back)) o
+    → count ≡ droppedCount (take long o′) b d → d′ ≡ writtenDrops (take long o′) b d
+    → ReturnSays s b back o o′ d d′ (record { number = 0; length = long; drops = count })
+unfolding returnedBook
+return-done {s} {b} {back} {o} {o′} {d} {d′} old long count e em el eo ec ed =
+    let p = plantOf s in
+    let new = returnedBook p b back in
+    let same : madeBook p (bitOr old back) ≡ new = ap (λ (n : ℕ). madeBook p (bitOr n back)) em in
+    let size : long ≡ length new = el ∙ ap length same in
+    let wrote : o′ ≡ over new o = eo ∙ ap (λ (a : List ℕ). over a o) same in
+    let read : take long o′ ≡ new = ap (take long) wrote ∙ over-back new o long size in
+    let ok = withdraw-ok s b back (length o) (length d) e in
+    let states = returning .right s b back (length o) (length d) e .is-book .states in
+    let room : 2 * bookStates new ≤ length d = omega (arith, drops-fit p (length d) (ok .drops-ok), states) in
+    let listed = room-listed new b d room in
+    let turned = gained-dropped b new in
+    record {
+      writes =
+          record {
+            number = sym e;
+            length-is = size;
+            drops = rw read at ec ∙ listed .0 ∙ ap length (sym turned);
+            book = wrote;
+            list = rw read at ed ∙ listed .1 ∙ ap (λ (l : List ℕ). over (bytesOf l) d) (sym turned);
+          };
+    }

@@ -12,7 +12,7 @@ use Rattle.statements.specs.Plants.{word, plantOf}
 use Rattle.statements.specs.Books.{bytesOf, bookLong, bookCount, withdrawnBook, droppedStates}
 use Rattle.statements.specs.Calls.{withdrawFault}
 use Rattle.sets.proofs.Over.{over-first}
-use Rattle.decoding.proofs.Faults.{preview-as, preview-as-longest}
+use Rattle.decoding.proofs.Faults.{withdraw-ok, preview-as, preview-as-longest}
 use Rattle.demands.proofs.Demand2.{demand-2}
 use Rattle.books.specs.declared.Answer.{Answer}
 use Rattle.books.specs.declared.Cost.{Cost}
@@ -83,7 +83,9 @@ previewed =
             buffer = λ same. list-told p pn ∙ ap (over _) same ∙ sym (list-is (w .writes) wn);
             kept = kept-told p pn ∙ sym (ap bookCount (book-read (w .writes) wn));
           };
-      listed = λ p pn. lists _ _ _ _ _ _ _ (fine p pn) (drops-told p pn) (list-told p pn);
+      listed = λ p pn.
+          let ok = withdraw-ok _ _ _ _ _ (fine p pn) in
+          lists _ _ _ _ _ _ (ok .lent .states) (ok .drops-ok) (drops-told p pn) (list-told p pn);
       adds-up = λ p pn.
           ap₂ (λ (m n : ℕ). m + n) (drops-told p pn) (kept-told p pn) ∙ demand-2 .adds-up _ _ _ _ _ (fine p pn);
     }

@@ -6,16 +6,18 @@ use mathlib.Core.List.{List, [], _∷_}
 use Prim.Native.Nat.{ℕ}
 use lib.Dec.{eqb}
 use lib.ListN.{length, take}
-use borrow.Author.Tests.{eq-eqb}
 use Rattle.statements.specs.Sets.{pick, over}
 use Rattle.statements.specs.Plants.{plantOf}
-use Rattle.statements.specs.Books.{madeBook, withdrawnBook, withdrawnList}
+use Rattle.statements.specs.Books.{madeBook}
 use Rattle.statements.specs.Calls.{makeFault, answerOf, writtenBy, standingAfter, standing, answers}
 use Rattle.demands.proofs.Demand3.{demand-3}
-use Rattle.books.specs.Traces.{Step, made, withdrew, withdrewList, answerIn, bufferIn, Keeps, nextBook, lastBook}
-use Rattle.books.specs.Traces.{Trace, numbersIn, callOf, callsOf, Begun, bookAfter, serviceAfter}
+use Rattle.books.specs.declared.Answer.{Answer}
+use Rattle.books.specs.Says.{Writes}
+use Rattle.books.specs.Traces.{Step, made, withdrew, withdrewList, returned, answerIn, bufferIn, Keeps}
+use Rattle.books.specs.Traces.{nextBook, lastBook, Trace, numbersIn, callOf, callsOf, Begun, bookAfter, serviceAfter}
 use Rattle.books.specs.Traces.{Demand-3-traced}
 use Rattle.sets.proofs.Over.{over-back}
+use Rattle.books.proofs.Made.{made-read}
 
 -- what an accepted call leaves in its buffer is the book that it writes
 standing-is : (t : Bool) (b written o o′ : List ℕ) (l : ℕ) → l ≡ pick t (length written) 0 →
@@ -29,20 +31,24 @@ unfolding answerIn callOf answerOf
 step-answer s b (made mask o o′ r) k = k .number
 step-answer s b (withdrew gone o o′ d d′ r) k = k .writes .number
 step-answer s b (withdrewList masks o o′ d d′ r) k = k .writes .number
+step-answer s b (returned back o o′ d d′ r) k = k .writes .number
+
+-- by a call that writes a book
+written-book : (b : List ℕ) {number : ℕ} {after listed o o′ d d′ : List ℕ} {r : Answer}
+    → Writes number after listed o o′ d d′ r
+    → pick (eqb (r .number) 0) (take (r .length) o′) b ≡ pick (eqb number 0) after b
+written-book b {after = after} {o = o} {o′} {r = r} w =
+    standing-is (eqb (r .number) 0) b after o o′ (r .length) (w .length-is) (w .book)
+    ∙ ap (λ n. pick (eqb n 0) after b) (w .number)
 
 step-book : (s b : List ℕ) (c : Step) → Keeps s b c → nextBook b c ≡ standingAfter s b (callOf c)
 unfolding nextBook standingAfter answerIn bufferIn callOf answerOf writtenBy
 step-book s b (made mask o o′ r) k =
     standing-is (eqb (r .number) 0) b (madeBook (plantOf s) mask) o o′ (r .length) (k .length-is) (k .book)
     ∙ ap (λ n. pick (eqb n 0) (madeBook (plantOf s) mask) b) (k .number)
-step-book s b (withdrew gone o o′ d d′ r) k =
-    let w = k .writes in
-    standing-is (eqb (r .number) 0) b (withdrawnBook (plantOf s) b gone) o o′ (r .length) (w .length-is) (w .book)
-    ∙ ap (λ n. pick (eqb n 0) (withdrawnBook (plantOf s) b gone) b) (w .number)
-step-book s b (withdrewList masks o o′ d d′ r) k =
-    let w = k .writes in
-    standing-is (eqb (r .number) 0) b (withdrawnList (plantOf s) b masks) o o′ (r .length) (w .length-is) (w .book)
-    ∙ ap (λ n. pick (eqb n 0) (withdrawnList (plantOf s) b masks) b) (w .number)
+step-book s b (withdrew gone o o′ d d′ r) k = written-book b (k .writes)
+step-book s b (withdrewList masks o o′ d d′ r) k = written-book b (k .writes)
+step-book s b (returned back o o′ d d′ r) k = written-book b (k .writes)
 
 -- so does a trace
 pub trace-book : (s b : List ℕ) (cs : List Step) → Trace s b cs → lastBook b cs ≡ standing s b (callsOf cs)
@@ -63,10 +69,7 @@ module _ (s : List ℕ) (t : Begun s) where
   fault-zero = sym (t .says .number) ∙ t .is-accepted
 
   first-book : take (t .r .length) (t .o′) ≡ madeBook (plantOf s) (t .mask)
-  first-book =
-      let q = eq-eqb (t .r .number) 0 (t .is-accepted) in
-      standing-is true [] (madeBook (plantOf s) (t .mask)) (t .o) (t .o′) (t .r .length)
-      (rw q at (t .says .length-is)) (rw q at (t .says .book))
+  first-book = made-read (t .says) (t .is-accepted)
 
   book-is : bookAfter s t ≡ standing s (madeBook (plantOf s) (t .mask)) (callsOf (t .steps))
   unfolding bookAfter

@@ -17,10 +17,11 @@ use Rattle.winning.proofs.Goals.{arrive-below, arrive-again}
 use Rattle.sets.proofs.Tests.{and-true}
 use Rattle.decoding.proofs.Faults.{plant-ok, arrow-range, make-ok, lent-fine, withdraw-ok, first-iff}
 use Rattle.demands.proofs.Demand2.{demand-2}
+use Rattle.demands.proofs.Returning.{returning}
 use Rattle.books.specs.declared.Advice.{Advice}
 use Rattle.books.specs.declared.Answer.{Answer}
 use Rattle.books.specs.declared.Mask.{Mask}
-use Rattle.books.specs.Says.{accepted, keeps, ConsultSays, MovesSays, WithdrawSays}
+use Rattle.books.specs.Says.{accepted, keeps, ConsultSays, MovesSays, WithdrawSays, ReturnSays}
 use Rattle.books.specs.Walks.{Walk, Walked, Walking, Walks}
 use Rattle.books.proofs.Consulted as consulted
 use Rattle.books.proofs.Listed.{no-fault, book-read}
@@ -243,6 +244,15 @@ withdrawn-walks {s} {b} {o} {o′} {d} {d′} {gone} says z =
     walking s (withdraw-ok s b gone (length o) (length d) fault .lent .plant)
     (rw (← book-read (says .writes) z) at (demand-2 .withdrawn s b gone (length o) (length d) fault))
 
+-- by the book of an accepted return
+returned-walks :
+    {s b o o′ d d′ : List ℕ} {back : ℕ} {r : Answer} → ReturnSays s b back o o′ d d′ r → r .number ≡ 0 →
+    Walking s (take (r .length) o′)
+returned-walks {s} {b} {o} {o′} {d} {d′} {back} says z =
+    let fault = no-fault (says .writes) z in
+    walking s (withdraw-ok s b back (length o) (length d) fault .lent .plant)
+    (rw (← book-read (says .writes) z) at (returning .right s b back (length o) (length d) fault))
+
 pub walks : Walks
 walks =
     record {
@@ -250,6 +260,7 @@ walks =
           walking s (make-ok s (t .mask) (length (t .o)) (fault-zero s t) .plant) (demand-3-traced .right s t);
       withdrawn = withdrawn-walks;
       withdrawn-list = λ says z. withdrawn-walks (accepted-one says z) z;
+      returned = returned-walks;
       same-advice = λ {b} {x} {i} says z k again.
           determined .consult (consult-again b x i (fine-said says z k) (rw (seek-said says z k) at again)) says;
       same-mask = λ {s} {b} {x} {i} says z k asked again.

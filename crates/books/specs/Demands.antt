@@ -1,15 +1,16 @@
--- What the calls that make, withdraw, once or by a list, preview, consult and give all good moves are held to, in one
--- record: their contracts cite it.
+-- What the calls that make, withdraw, once or by a list, return, preview, consult and give all good moves are held to,
+-- in one record: their contracts cite it.
 use mathlib.Core.Path.{_≡_}
 use mathlib.Core.List.{List}
 use Prim.Native.Nat.{ℕ}
 use lib.ListN.{take}
 use Rattle.books.specs.declared.Answer.{Answer}
-use Rattle.statements.specs.Demands.{Arriving, Demand-2, In-turn, Demand-3}
+use Rattle.statements.specs.Demands.{Arriving, Demand-2, In-turn, Returning, Demand-3}
 use Rattle.books.specs.Says.{WithdrawSays, Lists, Determined}
 use Rattle.books.specs.Previews.{Previews}
 use Rattle.books.specs.Traces.{Demand-3-traced}
 use Rattle.books.specs.InTurn.{In-turn-traced}
+use Rattle.books.specs.Returning.{Returning-traced}
 use Rattle.books.specs.Walks.{Walks}
 
 pub record Demands : Type 0 where
@@ -26,6 +27,9 @@ pub record Demands : Type 0 where
   -- a list of withdrawals comes to its single ones in turn; over masks and lengths, and over calls as they go
   pub in-turn : In-turn
   pub in-turn-traced : In-turn-traced
+  -- a return makes afresh with more moves in service, and lists what comes back; again over masks and over calls
+  pub returning : Returning
+  pub returning-traced : Returning-traced
   -- goals are passed and arrived at as request (v) says; moves taken straight from the calls meet every goal
   pub arriving : Arriving
   pub walks : Walks

@@ -13,8 +13,9 @@ use Rattle.books.specs.declared.Mask.{Mask}
 use Rattle.statements.specs.Sets.{pick, over, isIn}
 use Rattle.statements.specs.Plants.{words, plantOf}
 use Rattle.statements.specs.Books.{bytesOf, bookGoals, bookCount, waitAt, moveAt, isLost, arrive, goodMoves}
-use Rattle.statements.specs.Books.{madeBook, withdrawnBook, withdrawnList, droppedStates}
-use Rattle.statements.specs.Calls.{consultFault, movesFault, makeFault, withdrawFault, withdrawListFault, previewFault}
+use Rattle.statements.specs.Books.{madeBook, withdrawnBook, withdrawnList, returnedBook, droppedStates, gainedStates}
+use Rattle.statements.specs.Calls.{consultFault, movesFault, makeFault, withdrawFault, withdrawListFault, returnFault}
+use Rattle.statements.specs.Calls.{previewFault}
 use Rattle.statements.specs.Demands.{Rising}
 
 -- a call on a book is accepted
@@ -56,7 +57,8 @@ pub record MakeSays (s : List ℕ) (mask : ℕ) (o o′ : List ℕ) (r : Answer)
 
 -- a call that answers a number, and if that is 0 writes a book and a list of states, each from its buffer's first byte
 -- on, and returns the book's length and how many states are listed; a refused one writes nothing and has 0 in every
--- other field. The book buffer holds o before and o′ after, the drop buffer d before and d′ after
+-- other field. The book buffer holds o before and o′ after, the buffer for the list, which is the drop buffer, d before
+-- and d′ after
 pub record Writes (number-is : ℕ) (after listed o o′ d d′ : List ℕ) (r : Answer) : Type 0 where
   pub number : r .number ≡ number-is
   pub length-is : r .length ≡ pick (eqb (r .number) 0) (length after) 0
@@ -77,6 +79,12 @@ pub record WithdrawListSays (s b masks o o′ d d′ : List ℕ) (r : Answer) : 
       let after = withdrawnList (plantOf s) b masks in
       Writes (withdrawListFault s b masks (length o) (length d)) after (droppedStates b after) o o′ d d′ r
 
+-- returning moves to a book b: the number is 1 to 7 or 0, and the states listed are those kept now and not in b, rising
+pub record ReturnSays (s b : List ℕ) (back : ℕ) (o o′ d d′ : List ℕ) (r : Answer) : Type 0 where
+  pub writes :
+      let after = returnedBook (plantOf s) b back in
+      Writes (returnFault s b back (length o) (length d)) after (gainedStates b after) o o′ d d′ r
+
 -- previewing a withdrawal: the number is 1 to 7 or 0; an accepted call writes the states that the withdrawal would
 -- drop, as it would, and returns their number and K of the book that it would write; a refused one writes nothing and
 -- has 0 in every other field
@@ -87,11 +95,12 @@ pub record PreviewSays (s b : List ℕ) (gone : ℕ) (d d′ : List ℕ) (c : Co
   pub list : d′ ≡
       pick (eqb (c .number) 0) (over (bytesOf (droppedStates b (withdrawnBook (plantOf s) b gone))) d) d
 
--- a drop list as it is read: n two-byte numbers of the drop buffer are the states kept in the book b handed in and lost
--- in the book after; they strictly rise; and past them the buffer is as it was
-pub record Lists (s b after d d′ : List ℕ) (n : ℕ) : Type 0 where
-  pub dropped : (x : ℕ) → (isIn x (words n d′) ≡ true) ↔
-      ((x < plantOf s .states) × (isLost b x ≡ false) × (isLost after x ≡ true))
+-- a list of states as it is read: n two-byte numbers of the drop buffer are the states kept in the one book and lost in
+-- the other; they strictly rise; and past them the buffer is as it was. When moves are withdrawn the one is the book
+-- handed in and the other the book written; when moves are returned it is the other way round
+pub record Lists (s one other d d′ : List ℕ) (n : ℕ) : Type 0 where
+  pub listed : (x : ℕ) → (isIn x (words n d′) ≡ true) ↔
+      ((x < plantOf s .states) × (isLost one x ≡ false) × (isLost other x ≡ true))
   pub rising : Rising (words n d′)
   pub size : length d′ ≡ length d
   pub past : drop (2 * n) d′ ≡ drop (2 * n) d
@@ -108,5 +117,7 @@ pub record Determined : Type 0 where
   pub withdraw-list : {s b masks o o′ o″ d d′ d″ : List ℕ} {r r′ : Answer} →
       WithdrawListSays s b masks o o′ d d′ r → WithdrawListSays s b masks o o″ d d″ r′ →
       (r ≡ r′) × (o′ ≡ o″) × (d′ ≡ d″)
+  pub return-moves : {s b o o′ o″ d d′ d″ : List ℕ} {back : ℕ} {r r′ : Answer} →
+      ReturnSays s b back o o′ d d′ r → ReturnSays s b back o o″ d d″ r′ → (r ≡ r′) × (o′ ≡ o″) × (d′ ≡ d″)
   pub preview : {s b d d′ d″ : List ℕ} {gone : ℕ} {c c′ : Cost} →
       PreviewSays s b gone d d′ c → PreviewSays s b gone d d″ c′ → (c ≡ c′) × (d′ ≡ d″)

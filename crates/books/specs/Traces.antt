@@ -10,33 +10,37 @@ use Rattle.books.specs.declared.Answer.{Answer}
 use Rattle.statements.specs.Sets.{pick}
 use Rattle.statements.specs.Plants.{plantOf}
 use Rattle.statements.specs.Books.{madeBook}
-use Rattle.statements.specs.Calls.{Call, makes, withdraws, withdrawsList, told, inService}
+use Rattle.statements.specs.Calls.{Call, makes, withdraws, withdrawsList, returns, told, inService}
 use Rattle.statements.specs.Demands.{Allowed, Right}
-use Rattle.books.specs.Says.{MakeSays, WithdrawSays, WithdrawListSays}
+use Rattle.books.specs.Says.{MakeSays, WithdrawSays, WithdrawListSays, ReturnSays}
 
--- a call that went: its mask, or its masks' bytes, its book buffer before and after, for withdrawals its drop buffer
--- before and after, and its answer
+-- a call that went: its mask, or its masks' bytes, its book buffer before and after, for withdrawals and returns its
+-- drop buffer before and after, and its answer
 pub data Step : Type 0 where
   made : (mask : ℕ) (o o′ : List ℕ) (r : Answer) → Step
   withdrew : (gone : ℕ) (o o′ d d′ : List ℕ) (r : Answer) → Step
   withdrewList : (masks o o′ d d′ : List ℕ) (r : Answer) → Step
+  returned : (back : ℕ) (o o′ d d′ : List ℕ) (r : Answer) → Step
 
 -- the answer of a step, and its book buffer afterwards
 unfoldable pub answerIn : Step → Answer
 answerIn (made mask o o′ r) = r
 answerIn (withdrew gone o o′ d d′ r) = r
 answerIn (withdrewList masks o o′ d d′ r) = r
+answerIn (returned back o o′ d d′ r) = r
 
 unfoldable pub bufferIn : Step → List ℕ
 bufferIn (made mask o o′ r) = o′
 bufferIn (withdrew gone o o′ d d′ r) = o′
 bufferIn (withdrewList masks o o′ d d′ r) = o′
+bufferIn (returned back o o′ d d′ r) = o′
 
--- a step keeps the function's promise, b being the standing book, which withdrawals are handed
+-- a step keeps the function's promise, b being the standing book, which withdrawals and returns are handed
 abbrev pub Keeps : List ℕ → List ℕ → Step → Type 0
 Keeps s b (made mask o o′ r) = MakeSays s mask o o′ r
 Keeps s b (withdrew gone o o′ d d′ r) = WithdrawSays s b gone o o′ d d′ r
 Keeps s b (withdrewList masks o o′ d d′ r) = WithdrawListSays s b masks o o′ d d′ r
+Keeps s b (returned back o o′ d d′ r) = ReturnSays s b back o o′ d d′ r
 
 -- the standing book after a step: of an accepted call the first bytes of its buffer, as many as it returned
 unfoldable pub nextBook : List ℕ → Step → List ℕ
@@ -60,6 +64,7 @@ unfoldable pub callOf : Step → Call
 callOf (made mask o o′ r) = makes mask (length o)
 callOf (withdrew gone o o′ d d′ r) = withdraws gone (length o) (length d)
 callOf (withdrewList masks o o′ d d′ r) = withdrawsList masks (length o) (length d)
+callOf (returned back o o′ d d′ r) = returns back (length o) (length d)
 
 unfoldable pub callsOf : List Step → List Call
 callsOf [] = []

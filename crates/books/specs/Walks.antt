@@ -12,7 +12,7 @@ use Rattle.books.specs.declared.Mask.{Mask}
 use Rattle.statements.specs.Sets.{bit, lowest, isIn}
 use Rattle.statements.specs.Plants.{plantOf, inGoal, ends, available}
 use Rattle.statements.specs.Books.{bookMask, isLost, goalAfter, passes}
-use Rattle.books.specs.Says.{ConsultSays, MovesSays, WithdrawSays, WithdrawListSays}
+use Rattle.books.specs.Says.{ConsultSays, MovesSays, WithdrawSays, WithdrawListSays, ReturnSays}
 use Rattle.books.specs.Traces.{Begun, bookAfter}
 
 -- a walk by a book b in the plant with the bytes s (a run of the closed loop): at each moment consult is asked for the
@@ -52,10 +52,13 @@ Walking s b =
 pub record Walks : Type 0 where
   -- by the standing book after an accepted make and any list of calls
   pub standing : (s : List ℕ) (t : Begun s) → Walking s (bookAfter s t)
-  -- by the book of an accepted withdrawal, or of a list of them, from any book, also one that nobody made
+  -- by the book of an accepted withdrawal, or of a list of them, from any book, also one that nobody made, or of an
+  -- accepted return to one
   pub withdrawn : {s b o o′ d d′ : List ℕ} {gone : ℕ} {r : Answer} → WithdrawSays s b gone o o′ d d′ r →
       r .number ≡ 0 → Walking s (take (r .length) o′)
   pub withdrawn-list : {s b masks o o′ d d′ : List ℕ} {r : Answer} → WithdrawListSays s b masks o o′ d d′ r →
+      r .number ≡ 0 → Walking s (take (r .length) o′)
+  pub returned : {s b o o′ d d′ : List ℕ} {back : ℕ} {r : Answer} → ReturnSays s b back o o′ d d′ r →
       r .number ≡ 0 → Walking s (take (r .length) o′)
   -- in any book, consult and the call for all good moves answer the same once more for the goal that consult answered
   pub same-advice : {b : List ℕ} {x i : ℕ} {r r′ : Advice} → ConsultSays b x i r → r .number ≡ 0 → r .lost ≡ false →

@@ -1,6 +1,7 @@
-// The public calls: make a control book, withdraw moves from one, once or by a list, or see what that would cost,
-// consult it for a move or for all good ones, hand back a state's row.
+// The public calls: make a control book, withdraw moves from one, once or by a list, or see what that would cost, return
+// moves to it, consult it for a move or for all good ones, hand back a state's row.
 mod consult;
+mod make;
 mod start;
 mod withdraw;
 
@@ -11,7 +12,7 @@ ghost use lib.Dec.{eqb};
 ghost use lib.ListN.{length};
 ghost use Rattle.statements.specs.Calls.{rowPart};
 ghost use Rattle.books.specs.Says.{accepted, ConsultSays, MovesSays, rowStart, MakeSays, WithdrawSays};
-ghost use Rattle.books.specs.Says.{WithdrawListSays, PreviewSays};
+ghost use Rattle.books.specs.Says.{WithdrawListSays, ReturnSays, PreviewSays};
 ghost use Rattle.books.specs.Demands.{Demands};
 
 // What consult answers. A refused call has its number, and 0 in every other field; a lost state has `lost`, and 0 in
@@ -95,8 +96,9 @@ pub fn state_row<'a>(book: &'a [u8], state: u32) -> &'a [u8]
     &book[start..end]
 }
 
-// What make, withdraw and a list of withdrawals answer: the number of a refusal or 0, the length of the book written
-// and the number of states dropped. A refused call has 0 in both.
+// What make, withdraw, a list of withdrawals and return answer: the number of a refusal or 0, the length of the book
+// written and the number of states listed, which a return has gained and the others have dropped. A refused call has 0
+// in both.
 pub struct Answer {
     pub number: u8,
     pub length: u32,
@@ -123,10 +125,7 @@ pub fn make_book(plant: &[u8], mask: u32, out: &mut [u8]) -> Answer
     if fault != 0 {
         return refused(fault);
     }
-    let mut list = [0u16; 1024];
-    let all = start::states(plant, &mut list);
-    let kept = start::allowed(plant, &mut list, all);
-    let length = writing::book(plant, mask, &list[..kept], out);
+    let length = make::book(plant, mask, out);
     Answer {
         number: 0,
         length: length,
@@ -174,6 +173,34 @@ pub fn withdraw_list(
         return refused(fault);
     }
     withdraw::accepted(plant, book, format::word::union(masks), out, drops)
+}
+
+// Takes a plant, a book, a mask of moves to return, a book buffer and a drop buffer. Writes the book of a make with the
+// moves of that book and those returned and, by rising number, the states kept now and not before; returns the book's
+// length and how many they are.
+pub fn return_moves(
+    plant: &[u8],
+    book: &[u8],
+    mask: u32,
+    out: &mut [u8],
+    gained: &mut [u8],
+) -> Answer
+    ensures { λ r. ⌜ ReturnSays (now (plant .entry)) (now (book .entry)) mask
+        (now (out .entry)) (now (out .exit)) (now (gained .entry)) (now (gained .exit)) r ⌝ }
+    ensures demands { λ _. ⌜ Demands ⌝ }
+{
+    let fault = refusals::withdraw(plant, book, mask, out.len(), gained.len());
+    if fault != 0 {
+        return refused(fault);
+    }
+    let old = rows::mask(book);
+    let length = make::book(plant, old | mask, out);
+    let count = writing::dropped(&out[..length as usize], book, gained);
+    Answer {
+        number: 0,
+        length: length,
+        drops: count,
+    }
 }
 
 // What a preview answers: the number of a refusal or 0, the number of states that the withdrawal would drop and that

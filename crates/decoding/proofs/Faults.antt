@@ -9,6 +9,7 @@ use native.Mathlib.Omega.{arith}
 use native.Mathlib.Decide.{decLt}
 use lib.Dec.{eqb, ltb, leb}
 use lib.ListN.{length, drop, List·getD-eq-default}
+use lib.Bits.{bitOr}
 use borrow.Author.Tests.{ltb-true, leb-true, le-leb, eqb-true}
 use Rattle.statements.specs.Sets.{every, bit, isIn}
 use Rattle.statements.specs.Plants.{word, Arrow, Plant, words, plantOf, headOk, labelsOk, arrowsOk, rank}
@@ -17,10 +18,10 @@ use Rattle.statements.specs.Books.{bookLong, bookStates, bookMoves, bookGoals, 
 use Rattle.statements.specs.Books.{bookCount, isLost, isHeld, bookKept, bookFault, eachOk, masksOf, unionOf}
 use Rattle.statements.specs.Calls.{maskFault, wholeMasks, masksFault, bookRoom, dropRoom, roomFault, makeFault, alike}
 use Rattle.statements.specs.Calls.{lentFault, withdrawFault, withdrawListFault, previewFault, makes, withdraws}
-use Rattle.statements.specs.Calls.{withdrawsList, toldOf}
+use Rattle.statements.specs.Calls.{returnFault, withdrawsList, returns, toldOf}
 use Rattle.sets.proofs.Tests.{same-number, and-left, and-right, and-iff}
 use Rattle.sets.proofs.Members.{isIn-none, isIn-consIf}
-use Rattle.decoding.proofs.Masks.{union-ok}
+use Rattle.decoding.proofs.Masks.{or-ok, union-ok}
 use Rattle.decoding.proofs.Sizes.{Sizes, entries-most, long-most}
 
 pub first-iff : (a b : ℕ) → (firstOf a b ≡ 0) ↔ ((a ≡ 0) × (b ≡ 0))
@@ -220,6 +221,14 @@ withdraw-ok s b gone room drops h =
       drops-ok = rooms .1;
     }
 
+-- to return moves is accepted only where a make with them and the book's own is
+pub return-make : (s b : List ℕ) (back room gained : ℕ) → returnFault s b back room gained ≡ 0
+    → makeFault s (bitOr (bookMask b) back) room ≡ 0
+unfolding makeFault maskFault
+return-make s b back room gained h =
+    let ok = withdraw-ok s b back room gained h in
+    rw (ok .lent .plant, or-ok (plantOf s .moves) (bookMask b) back, ok .lent .mask-ok, ok .gone-ok, ok .room-ok)
+
 -- a list of withdrawals
 module _ (s b m : List ℕ) (room drops : ℕ) where
   -- a whole one is answered as one withdrawal of all moves that its masks name
@@ -270,7 +279,7 @@ pub make-told : (s : List ℕ) (mask room : ℕ) → plantFault s ≡ 0
 unfolding makeFault toldOf
 make-told s mask room h = rw h
 
--- and so do a withdrawal and a list of them, once the book is accepted with the plant
+-- and so do a withdrawal, a list of them and a return, once the book is accepted with the plant
 module _ (s b : List ℕ) (room drops : ℕ) (h : lentFault s b ≡ 0) where
   pub withdraw-told : (gone : ℕ)
       → withdrawFault s b gone room drops ≡ toldOf (plantOf s) (withdraws gone room drops)
@@ -281,3 +290,8 @@ module _ (s b : List ℕ) (room drops : ℕ) (h : lentFault s b ≡ 0) where
       → withdrawListFault s b m room drops ≡ toldOf (plantOf s) (withdrawsList m room drops)
   unfolding withdrawListFault toldOf
   list-told m = rw h
+
+  pub return-told : (back : ℕ)
+      → returnFault s b back room drops ≡ toldOf (plantOf s) (returns back room drops)
+  unfolding withdrawFault toldOf
+  return-told back = rw h

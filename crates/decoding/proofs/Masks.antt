@@ -1,7 +1,7 @@
--- The bits of a mask less another: those of the one that are not in the other. The masks of a list joined: all that one
--- of them names. Assumes nothing.
+-- The bits of a mask less another: those of the one that are not in the other. Two masks joined, and the masks of a list
+-- joined: all that one of them names. Assumes nothing.
 use mathlib.Core.Path.{_≡_, refl, sym, ap, _∙_}
-use mathlib.Core.Logic.{_↔_, inl, inr}
+use mathlib.Core.Logic.{_↔_, _⊎_, inl, inr}
 use mathlib.Core.Bool.{Bool, true, false, _&&_, _||_, not, true≢false}
 use mathlib.Core.List.{List, [], _∷_}
 use Prim.Native.Nat.{ℕ, zero, suc, _-_, _/_, _%_, _^_, _<_}
@@ -80,6 +80,29 @@ or-ok u a b =
     lt-ltb (bitOr a b) (2 ^ u)
     (or-lt u a b (ltb-true a (2 ^ u) (and-left (maskOk u a) (maskOk u b) h))
     (ltb-true b (2 ^ u) (and-right (maskOk u a) (maskOk u b) h))))
+
+-- one that is less another and then joined with it is joined with it
+pub less-or : (a b : ℕ) → bitOr (lessMask a b) b ≡ bitOr a b
+less-or a b =
+    all-bits (bitOr (lessMask a b) b) (bitOr a b)
+    (λ u. rw (or-bit u (lessMask a b) b, less-is u a b, or-bit u a b) (either (bit u a) (bit u b)))
+  where
+    either : (s t : Bool) → ((s && not t) || t) ≡ (s || t)
+    either true true = refl
+    either true false = refl
+    either false t = refl
+
+-- two masks joined name a move just when one of them does
+pub or-names : (a b u : ℕ) → (bit u (bitOr a b) ≡ true) ↔ ((bit u a ≡ true) ⊎ (bit u b ≡ true))
+or-names a b u = (
+  λ h. or-cases (bit u a) (bit u b) (sym (or-bit u a b) ∙ h),
+  λ h.
+      or-bit u a b
+      ∙ elim h [
+        | inl e ↦ or-left (bit u a) (bit u b) e
+        | inr e ↦ or-right (bit u a) (bit u b) e
+      ],
+)
 
 -- a mask of no moves has
 none-ok : (u : ℕ) → maskOk u 0 ≡ true

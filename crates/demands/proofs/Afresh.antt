@@ -1,16 +1,18 @@
 -- Withdrawing from a book within some allowed states gives the book within them for fewer moves, and so withdrawing
 -- from the book of a making is making afresh: the states kept with fewer moves in service are among those kept with
--- more, so that a strategy which may not leave the latter loses nothing. Assumes nothing.
+-- more, so that a strategy which may not leave the latter loses nothing. A return makes afresh whatever the book keeps,
+-- for the moves in service there and its own. Assumes nothing.
 use mathlib.Core.Path.{_≡_, sym, ap, _∙_}
 use mathlib.Core.Bool.{Bool, true, not}
 use mathlib.Core.List.{List, [], _∷_}
 use Prim.Native.Nat.{ℕ}
+use lib.Bits.{bitOr}
 use borrow.Author.Tests.{not-true}
 use Rattle.statements.specs.Sets.{isIn}
 use Rattle.statements.specs.Plants.{Plant, allowed}
 use Rattle.statements.specs.Kept.{keptWithin}
 use Rattle.statements.specs.Books.{bookBytes, isLost, bookFault, maskOk, lessMask, keptBefore}
-use Rattle.statements.specs.Books.{bookWithin, madeBook, withdrawnBook, unionOf, withdrawnInTurn}
+use Rattle.statements.specs.Books.{bookWithin, madeBook, withdrawnBook, unionOf, withdrawnInTurn, returnedBook}
 use Rattle.statements.specs.Calls.{alike}
 use Rattle.sets.proofs.Tests.{and-true, and-left, and-right}
 use Rattle.kept.proofs.Kept.{kept-within, kept-more, kept-between}
@@ -95,3 +97,8 @@ module _ (p : Plant) (ok : PlantOk p) (m : ℕ) (mask-ok : maskOk (p .moves) m �
       (masks : List ℕ) → withdrawnInTurn p (madeBook p m) masks ≡ madeBook p (lessMask m (unionOf masks))
   unfolding madeBook
   in-turn-afresh masks = within-in-turn (given-allowed p m ok mask-ok) (λ x e. e) masks
+
+  -- and moves returned to it
+  pub returned-afresh : (back : ℕ) → returnedBook p (madeBook p m) back ≡ madeBook p (bitOr m back)
+  unfolding returnedBook madeBook
+  returned-afresh back = ap (λ n. madeBook p (bitOr n back)) (book-mask (given-allowed p m ok mask-ok))

@@ -40,7 +40,7 @@ kept-iff b x =
     )
 
 -- the drop list: the states kept in the one book and lost in the other
-dropped-iff :
+pub dropped-iff :
     (b after : List ℕ) (x : ℕ) →
     (isIn x (droppedStates b after) ≡ true) ↔
     ((x < bookStates b) × (isLost b x ≡ false) × (isLost after x ≡ true))
@@ -54,10 +54,35 @@ dropped-iff b after x = (
 )
 
 -- by rising number
-dropped-rising : (b after : List ℕ) → Rising (droppedStates b after)
+pub dropped-rising : (b after : List ℕ) → Rising (droppedStates b after)
 unfolding droppedStates bookKept
 dropped-rising b after =
     rw filter-filter (filter-rises (λ x. not (isLost b x) && isLost after x) (bookStates b) 0)
+
+-- a book that keeps all that another keeps: it keeps these states and those that it alone keeps
+module _ (b other : List ℕ) (same : bookStates b ≡ bookStates other)
+    (more : (x : ℕ) → x < bookStates b → isLost other x ≡ false → isLost b x ≡ false) where
+  -- to be kept in both is to be kept in the other
+  kept-both : (x : ℕ) → isIn x (numbers (bookStates b) 0) ≡ true
+      → (not (isLost b x) && not (isLost other x)) ≡ not (isLost other x)
+  kept-both x m =
+      let below : x < bookStates b = omega (arith, numbers-holds (bookStates b) 0 x m) in
+      same-test (not (isLost b x) && not (isLost other x)) (not (isLost other x))
+      (and-right (not (isLost b x)) (not (isLost other x)))
+      (λ k. and-true (ap not (more x below (not-true (isLost other x) k))) k)
+
+  -- so that of the states kept in the one those kept in the other are all that the other keeps
+  still-kept : filter (λ x. not (isLost other x)) (bookKept b) ≡ bookKept other
+  unfolding bookKept
+  still-kept =
+      let all = numbers (bookStates b) 0 in
+      filter-filter (λ x. not (isLost other x)) (λ x. not (isLost b x)) all
+      ∙ filter-same (λ x. not (isLost b x) && not (isLost other x)) (λ x. not (isLost other x)) all kept-both
+      ∙ ap (λ (n : ℕ). filter (λ x. not (isLost other x)) (numbers n 0)) same
+
+  pub parts-add-up : length (droppedStates b other) + length (bookKept other) ≡ length (bookKept b)
+  unfolding droppedStates
+  parts-add-up = omega (arith, filter-parts (isLost other) (bookKept b), ap length still-kept)
 
 -- the book of an accepted withdrawal
 module _ (s b : List ℕ) (gone room drops : ℕ) (h : withdrawFault s b gone room drops ≡ 0) where
@@ -78,37 +103,14 @@ module _ (s b : List ℕ) (gone room drops : ℕ) (h : withdrawFault s b gone ro
       let w = kept-within p (lessMask (bookMask b) gone) (keptBefore p b) x k .1 in
       not-true (isLost b x) (and-right (allowed p x) _ w)
 
-  -- so that to be kept in both books is to be kept in the new one
-  kept-both : (x : ℕ) → isIn x (numbers (bookStates b) 0) ≡ true
-      → (not (isLost b x) && not (isLost After x)) ≡ not (isLost After x)
-  kept-both x m =
-      let below : x < plantOf s .states =
-      omega (arith, numbers-holds (bookStates b) 0 x m, withdraw-ok s b gone room drops h .lent .states) in
-      same-test (not (isLost b x) && not (isLost After x)) (not (isLost After x))
-      (and-right (not (isLost b x)) (not (isLost After x)))
-      (λ k. and-true (ap not (kept-before x below (not-true (isLost After x) k))) k)
-
-  -- and of the states kept before those still kept are all that the new book keeps
-  still-kept : filter (λ x. not (isLost After x)) (bookKept b) ≡ bookKept After
-  unfolding bookKept
-  still-kept =
-      let all = numbers (bookStates b) 0 in
-      filter-filter (λ x. not (isLost After x)) (λ x. not (isLost b x)) all
-      ∙ filter-same (λ x. not (isLost b x) && not (isLost After x)) (λ x. not (isLost After x)) all kept-both
-      ∙ ap (λ (n : ℕ). filter (λ x. not (isLost After x)) (numbers n 0))
-      (withdraw-ok s b gone room drops h .lent .states ∙ sym (new .states))
-
   -- the states dropped and those still kept
   adds-up : length (droppedStates b After) + bookCount After ≡ bookCount b
-  unfolding droppedStates
   adds-up =
-      omega (
-        arith,
-        filter-parts (isLost After) (bookKept b),
-        ap length still-kept,
-        new .count,
-        book-ok b (withdraw-ok s b gone room drops h .lent .book) .count,
-      )
+      let lent = withdraw-ok s b gone room drops h .lent in
+      let parts =
+      parts-add-up b After (lent .states ∙ sym (new .states))
+      (λ x hx e. kept-before x (omega (arith, hx, lent .states)) e) in
+      omega (arith, parts, new .count, book-ok b (lent .book) .count)
 
 -- demand 2
 pub demand-2 : Demand-2

@@ -10,15 +10,17 @@ use borrow.Author.Tests.{eqb-true}
 use Rattle.statements.specs.Sets.{pick}
 use Rattle.statements.specs.Plants.{Plant, plantOf, plantFault}
 use Rattle.statements.specs.Books.{maskOk, madeBook, masksOf, unionOf, withdrawnList}
-use Rattle.statements.specs.Calls.{makeFault, lentFault, Call, makes, withdraws, withdrawsList, answerOf, writtenBy}
-use Rattle.statements.specs.Calls.{standingAfter, standing, answers, toldOf, told, putBy, inService}
+use Rattle.statements.specs.Calls.{makeFault, lentFault, Call, makes, withdraws, withdrawsList, returns, answerOf}
+use Rattle.statements.specs.Calls.{writtenBy, standingAfter, standing, answers, toldOf, told, putBy, inService}
 use Rattle.statements.specs.Demands.{Allowed, Right, Demand-3}
-use Rattle.sets.proofs.Tests.{decided}
-use Rattle.decoding.proofs.Masks.{less-ok}
-use Rattle.decoding.proofs.Faults.{plant-ok, make-ok, lent-fine, make-told, withdraw-told, list-told}
+use Rattle.sets.proofs.Tests.{decided, and-true}
+use Rattle.decoding.proofs.Masks.{less-ok, or-ok}
+use Rattle.decoding.proofs.Faults.{plant-ok, make-ok, lent-fine, withdraw-ok, make-told, withdraw-told, list-told}
+use Rattle.decoding.proofs.Faults.{return-told}
 use Rattle.demands.proofs.Plants.{given-allowed}
 use Rattle.demands.proofs.Books.{right}
 use Rattle.demands.proofs.Afresh.{made-same, made-alike, made-accepted, withdrawn-afresh, in-turn-afresh}
+use Rattle.demands.proofs.Afresh.{returned-afresh}
 
 -- the moves in service after a call, told from the call alone
 abbrev pub putAfter : Plant → ℕ → Call → ℕ
@@ -40,6 +42,7 @@ module _ (s : List ℕ) (accepted : plantFault s ≡ 0) where
         withdraw-told s (madeBook (plantOf s) mask) room drops made-lent gone
     answer-told (withdrawsList masks room drops) =
         list-told s (madeBook (plantOf s) mask) room drops made-lent masks
+    answer-told (returns back room gained) = return-told s (madeBook (plantOf s) mask) room gained made-lent back
 
     -- what it writes is the book of a making afresh
     pub written-afresh :
@@ -49,6 +52,7 @@ module _ (s : List ℕ) (accepted : plantFault s ≡ 0) where
     written-afresh (withdraws gone room drops) = withdrawn-afresh (plantOf s) (plant-ok s accepted) mask ok gone
     written-afresh (withdrawsList masks room drops) =
         in-turn-afresh (plantOf s) (plant-ok s accepted) mask ok (masksOf masks)
+    written-afresh (returns back room gained) = returned-afresh (plantOf s) (plant-ok s accepted) mask ok back
 
     -- an accepted call puts a mask of the plant's moves in service
     put-ok : (c : Call) → toldOf (plantOf s) c ≡ 0 → maskOk (plantOf s .moves) (putBy mask c) ≡ true
@@ -56,6 +60,10 @@ module _ (s : List ℕ) (accepted : plantFault s ≡ 0) where
     put-ok (makes new room) e = make-ok s new room (make-told s new room accepted ∙ e) .mask-ok
     put-ok (withdraws gone room drops) e = less-ok (plantOf s .moves) mask gone ok
     put-ok (withdrawsList masks room drops) e = less-ok (plantOf s .moves) mask (unionOf (masksOf masks)) ok
+    put-ok (returns back room gained) e =
+        let b = madeBook (plantOf s) mask in
+        let back-ok = withdraw-ok s b back room gained (return-told s b room gained made-lent back ∙ e) .gone-ok in
+        or-ok (plantOf s .moves) mask back ∙ and-true ok back-ok
 
     -- any call leaves one there
     pub after-ok : (c : Call) → maskOk (plantOf s .moves) (putAfter (plantOf s) mask c) ≡ true

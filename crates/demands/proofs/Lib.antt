@@ -1,5 +1,5 @@
--- Demands 2 and 3 and request (vi) proved, and the laws of books that lead there. Each file leans on those above it
--- alone.
+-- Demands 2 and 3 and requests (vi) and (vii) proved, and the laws of books that lead there. Each file leans on those
+-- above it alone.
 pub mod Plants
 pub mod Rules
 pub mod Winners
@@ -10,3 +10,4 @@ pub mod Demand2
 pub mod Afresh
 pub mod Demand3
 pub mod InTurn
+pub mod Returning

@@ -2,11 +2,11 @@
 // include/planbook.h says the same in C.
 ghost use mathlib.Core.Path.{_≡_};
 ghost use Rattle.statements.specs.Sets.{pick};
-ghost use Rattle.books.specs.Says.{MakeSays, WithdrawSays, WithdrawListSays, PreviewSays, MovesSays};
+ghost use Rattle.books.specs.Says.{MakeSays, WithdrawSays, WithdrawListSays, ReturnSays, PreviewSays, MovesSays};
 ghost use Rattle.planbook_c.specs.Flat.{plain, plainCost, plainMask, AdviceSays, PartSays};
 
-// What make, withdraw and a list of withdrawals answer: a refusal's number or 0, the book's length, the number of
-// states dropped.
+// What make, withdraw, a list of withdrawals and return answer: a refusal's number or 0, the book's length, the number
+// of states listed, which a return has gained and the others have dropped.
 #[repr(C)]
 pub struct Answer {
     pub number: u32,
@@ -106,6 +106,23 @@ pub extern "C" fn planbook_withdraw_list(
         (now (out .entry)) (now (out .exit)) (now (drops .entry)) (now (drops .exit)) (plain r) ⌝ }
 {
     flat(books::withdraw_list(plant, book, masks, out, drops))
+}
+
+// Takes a plant, a book, a mask of moves to return, a book buffer and a drop buffer. Writes the book of a make with the
+// moves of that book and those returned and, by rising number, the states kept now and not before; returns the book's
+// length and how many they are.
+#[no_mangle]
+pub extern "C" fn planbook_return(
+    plant: &[u8],
+    book: &[u8],
+    mask: u32,
+    out: &mut [u8],
+    gained: &mut [u8],
+) -> Answer
+    ensures { λ r. ⌜ ReturnSays (now (plant .entry)) (now (book .entry)) mask
+        (now (out .entry)) (now (out .exit)) (now (gained .entry)) (now (gained .exit)) (plain r) ⌝ }
+{
+    flat(books::return_moves(plant, book, mask, out, gained))
 }
 
 // Takes a plant, a book, a mask of moves to withdraw and a drop buffer. Writes, by rising number, the states that the

@@ -12,14 +12,15 @@ use Rattle.statements.specs.Books.{bookGoals, bookCount, bookMask, waitA
 use Rattle.statements.specs.Books.{maskAt, maskOk, eachOk, bookHeadOk, rowsOk, bookFault, goalAfter, served}
 use Rattle.statements.specs.Books.{passes, arrive, nearerIn, goodMoves, lessMask, bookWithin}
 use Rattle.statements.specs.Books.{madeBook, keptBefore, withdrawnBook, masksIn, masksOf, withdrawnInTurn}
-use Rattle.statements.specs.Books.{withdrawnList, droppedStates}
+use Rattle.statements.specs.Books.{withdrawnList, returnedBook, droppedStates, gainedStates}
 use Rattle.statements.specs.Calls.{maskFault, wholeMasks, masksFault, bookRoom, dropRoom, roomFault, makeFault}
 use Rattle.statements.specs.Calls.{alike, lentFault, withdrawFault, withdrawListFault, previewFault, numberFault}
 use Rattle.statements.specs.Calls.{consultFault, movesFault, rowPart, answerOf, writtenBy}
 use Rattle.statements.specs.Calls.{standingAfter, standing, answers, toldOf, told, putBy, inService}
 use Rattle.statements.specs.Marked.{plantP, plantStill, plantLoop, plantMay, plantEnd, bookP, lostRow}
-use Rattle.statements.specs.Marked.{bookM1, bookM2, bookM9, bookBoth, bookBoth9, bookThree, allLost, Marked}
-use Rattle.statements.specs.Marked.{fifteen, Marked-arrivals, Marked-moves, Marked-previews, Marked-lists}
+use Rattle.statements.specs.Marked.{bookM1, bookM2, bookM9, bookBoth, bookBoth9, bookFour, bookThree, allLost}
+use Rattle.statements.specs.Marked.{Marked, fifteen, Marked-arrivals, Marked-moves, Marked-previews}
+use Rattle.statements.specs.Marked.{Marked-lists, Marked-returns}
 
 pub marked : Marked
 unfolding bit numbers every first joined iterate isIn allIn filter word words arrowsFrom plantOf headOk labelsOk rank arrowsOk plantFault allowed inGoal endsIn ends available goesInto moveInto can grown target forced forcedAll keptRound keptWithin level waitOf nearer listedMove two bookLong entryOf rowOf headOf bookBytes bookStates bookMoves bookGoals bookCount bookMask waitAt moveAt isLost isHeld bookKept maskOk bookHeadOk rowsOk bookFault goalAfter served passes arrive lessMask bookWithin madeBook keptBefore withdrawnBook droppedStates maskFault bookRoom dropRoom roomFault makeFault alike lentFault withdrawFault numberFault consultFault rowPart answerOf writtenBy standingAfter standing answers toldOf told putBy inService bytesOf plantP plantStill plantLoop plantMay plantEnd bookP lostRow bookM1 bookM2 bookM9 allLost
@@ -99,5 +100,21 @@ marked-lists =
       cut = refl;
       first-bad = refl;
       last-bad = refl;
+      unlike = refl;
+    }
+
+pub marked-returns : Marked-returns
+unfolding bit numbers every first joined iterate isIn allIn filter word words arrowsFrom plantOf headOk labelsOk rank arrowsOk plantFault allowed inGoal endsIn ends available goesInto moveInto can grown target forced forcedAll keptRound keptWithin level waitOf nearer listedMove two bookLong entryOf rowOf headOf bookBytes bookStates bookMoves bookGoals bookCount bookMask waitAt moveAt isLost isHeld bookKept maskOk bookHeadOk rowsOk bookFault bookWithin madeBook returnedBook gainedStates maskFault bookRoom dropRoom roomFault alike lentFault withdrawFault bytesOf plantP plantMay bookP lostRow bookM1 bookM2 bookM9 bookFour allLost
+marked-returns =
+    record {
+      none = record { accepted = refl; short-book = refl; short-list = refl; book = refl; gains = refl };
+      all = record { accepted = refl; short-book = refl; short-list = refl; book = refl; gains = refl };
+      two-moves = record { accepted = refl; short-book = refl; short-list = refl; book = refl; gains = refl };
+      not-enough = record { accepted = refl; short-book = refl; short-list = refl; book = refl; gains = refl };
+      in-service = record { accepted = refl; short-book = refl; short-list = refl; book = refl; gains = refl };
+      zero-mask = record { accepted = refl; short-book = refl; short-list = refl; book = refl; gains = refl };
+      not-made = record { accepted = refl; short-book = refl; short-list = refl; book = refl; gains = refl };
+      lost-now = record { accepted = refl; short-book = refl; short-list = refl; book = refl; gains = refl };
+      no-move = refl;
       unlike = refl;
     }

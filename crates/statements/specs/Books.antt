@@ -182,6 +182,14 @@ withdrawnInTurn p b (gone ∷ more) = withdrawnInTurn p (withdrawnBook p b gone)
 unfoldable pub withdrawnList : Plant → List ℕ → List ℕ → List ℕ
 withdrawnList p b m = withdrawnInTurn p b (masksOf m)
 
--- the states kept in one book and lost in another, rising
+-- the book of moves returned to any book b: that of a making with the moves of b and those returned. Which states b
+-- keeps has no part in it
+unfoldable pub returnedBook : Plant → List ℕ → ℕ → List ℕ
+returnedBook p b back = madeBook p (bitOr (bookMask b) back)
+
+-- the states kept in one book and lost in the next, rising; and those lost in the one and kept in the next
 unfoldable pub droppedStates : List ℕ → List ℕ → List ℕ
 droppedStates before after = filter (isLost after) (bookKept before)
+
+unfoldable pub gainedStates : List ℕ → List ℕ → List ℕ
+gainedStates before after = filter (isLost before) (bookKept after)

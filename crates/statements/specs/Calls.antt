@@ -4,10 +4,12 @@ use mathlib.Core.List.{List, [], _∷_}
 use Prim.Native.Nat.{ℕ, _+_, _*_, _%_}
 use lib.Dec.{eqb, leb}
 use lib.ListN.{length, take, drop}
+use lib.Bits.{bitOr}
 use Rattle.statements.specs.Sets.{pick}
 use Rattle.statements.specs.Plants.{firstOf, when, Plant, plantOf, plantFault}
 use Rattle.statements.specs.Books.{bookLong, bookStates, bookMoves, bookGoals, maskOk, eachOk, bookHeadOk}
 use Rattle.statements.specs.Books.{bookFault, lessMask, madeBook, withdrawnBook, masksOf, unionOf, withdrawnList}
+use Rattle.statements.specs.Books.{returnedBook}
 
 -- answer 6: the mask given has a bit at U or above
 unfoldable pub maskFault : Plant → ℕ → ℕ
@@ -57,6 +59,10 @@ withdrawListFault s b m room drops =
     let p = plantOf s in
     firstOf (lentFault s b) (firstOf (masksFault p m) (roomFault p room drops))
 
+-- what a return answers for a mask and its buffers' lengths: as withdraw, the buffer for its list being the drop buffer
+abbrev pub returnFault : List ℕ → List ℕ → ℕ → ℕ → ℕ → ℕ
+returnFault s b back room gained = withdrawFault s b back room gained
+
 -- what preview answers: 1 to 7, or 0, 7 being for the drop buffer alone
 unfoldable pub previewFault : List ℕ → List ℕ → ℕ → ℕ → ℕ
 previewFault s b gone drops =
@@ -80,24 +86,27 @@ unfoldable pub rowPart : List ℕ → ℕ → List ℕ
 rowPart b x =
     pick (eqb (consultFault b x 0) 0) (take (4 * bookGoals b) (drop (16 + 4 * (x * bookGoals b)) b)) []
 
--- a make, or a withdrawal or a list of them from the standing book: its mask, or its masks' bytes, and its buffers'
--- lengths
+-- a make, or a withdrawal or a list of them from the standing book, or a return to it: its mask, or its masks' bytes,
+-- and its buffers' lengths
 pub data Call : Type 0 where
   makes : (mask room : ℕ) → Call
   withdraws : (gone room drops : ℕ) → Call
   withdrawsList : (masks : List ℕ) (room drops : ℕ) → Call
+  returns : (back room gained : ℕ) → Call
 
 -- the number a call on a plant's bytes returns when b is the standing book
 unfoldable pub answerOf : List ℕ → List ℕ → Call → ℕ
 answerOf s b (makes mask room) = makeFault s mask room
 answerOf s b (withdraws gone room drops) = withdrawFault s b gone room drops
 answerOf s b (withdrawsList masks room drops) = withdrawListFault s b masks room drops
+answerOf s b (returns back room gained) = returnFault s b back room gained
 
 -- the book that an accepted call writes
 unfoldable pub writtenBy : List ℕ → List ℕ → Call → List ℕ
 writtenBy s b (makes mask room) = madeBook (plantOf s) mask
 writtenBy s b (withdraws gone room drops) = withdrawnBook (plantOf s) b gone
 writtenBy s b (withdrawsList masks room drops) = withdrawnList (plantOf s) b masks
+writtenBy s b (returns back room gained) = returnedBook (plantOf s) b back
 
 -- the standing book after a call, and after a list of calls: a refused call leaves it as it was
 unfoldable pub standingAfter : List ℕ → List ℕ → Call → List ℕ
@@ -117,6 +126,7 @@ unfoldable pub toldOf : Plant → Call → ℕ
 toldOf p (makes mask room) = firstOf (maskFault p mask) (when (not (bookRoom p room)) 7)
 toldOf p (withdraws gone room drops) = firstOf (maskFault p gone) (roomFault p room drops)
 toldOf p (withdrawsList masks room drops) = firstOf (masksFault p masks) (roomFault p room drops)
+toldOf p (returns back room gained) = firstOf (maskFault p back) (roomFault p room gained)
 
 unfoldable pub told : Plant → List Call → List ℕ
 told p [] = []
@@ -127,6 +137,7 @@ unfoldable pub putBy : ℕ → Call → ℕ
 putBy mask (makes new room) = new
 putBy mask (withdraws gone room drops) = lessMask mask gone
 putBy mask (withdrawsList masks room drops) = lessMask mask (unionOf (masksOf masks))
+putBy mask (returns back room gained) = bitOr mask back
 
 unfoldable pub inService : Plant → ℕ → List Call → ℕ
 inService p mask [] = mask

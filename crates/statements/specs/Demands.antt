@@ -1,20 +1,21 @@
--- Demands 2 and 3, and what requests (i), (ii), (iv), (v) and (vi) say of the books written, of drop lists, of the
--- goals sought and of lists of withdrawals, stated: these records are what the product claims of its books. The proofs
--- are in crate demands.
+-- Demands 2 and 3, and what requests (i), (ii) and (iv) to (vii) say of the books written, of drop lists, of the goals
+-- sought, of lists of withdrawals and of returns, stated: these records are what the product claims of its books. The
+-- proofs are in crate demands.
 use mathlib.Core.Path.{_≡_}
-use mathlib.Core.Logic.{_↔_}
+use mathlib.Core.Logic.{_↔_, _⊎_}
 use mathlib.Core.Bool.{true, false}
 use mathlib.Core.List.{List}
 use Prim.Native.Nat.{ℕ, _+_, _≤_, _<_}
 use lib.ListN.{length, getD}
+use lib.Bits.{bitOr}
 use Rattle.statements.specs.Sets.{bit, lowest, isIn}
 use Rattle.statements.specs.Plants.{word, Plant, plantOf, allowed, ends, available}
 use Rattle.statements.specs.Books.{bookLong, bookStates, bookMoves, bookGoals, bookCount, bookMask, waitAt}
 use Rattle.statements.specs.Books.{moveAt, isLost, bookKept, bookFault, goalAfter, passes, arrive, goodMoves}
 use Rattle.statements.specs.Books.{lessMask, keptBefore, madeBook, withdrawnBook, masksOf, unionOf}
-use Rattle.statements.specs.Books.{withdrawnList, droppedStates}
-use Rattle.statements.specs.Calls.{makeFault, withdrawFault, withdrawListFault, Call, standing, answers, told}
-use Rattle.statements.specs.Calls.{inService, singles}
+use Rattle.statements.specs.Books.{withdrawnList, returnedBook, droppedStates, gainedStates}
+use Rattle.statements.specs.Calls.{makeFault, withdrawFault, withdrawListFault, returnFault, Call, standing}
+use Rattle.statements.specs.Calls.{answers, told, inService, singles}
 use Rattle.statements.specs.Strategies.{Wins-by, Wins, Forces, following, Picks, Serves}
 
 -- move u is available in x, and all its arrows end in states with a property
@@ -157,6 +158,42 @@ pub record In-turn : Type 0 where
   pub adds-up : (s b masks : List ℕ) (room drops : ℕ) → withdrawListFault s b masks room drops ≡ 0 →
       let after = withdrawnList (plantOf s) b masks in
       length (droppedStates b after) + bookCount after ≡ bookCount b
+
+-- request (vii), of any return that is accepted
+pub record Returning : Type 0 where
+  -- to any book, also one that nobody made: a making with the moves of that book and those returned would be accepted,
+  -- and gives the same book
+  pub afresh : (s b : List ℕ) (back room gained : ℕ) → returnFault s b back room gained ≡ 0 →
+      let mask = bitOr (bookMask b) back in
+      (makeFault s mask room ≡ 0) × (returnedBook (plantOf s) b back ≡ madeBook (plantOf s) mask)
+  -- those are the moves that one mask names or the other
+  pub named : (mask back u : ℕ) → (bit u (bitOr mask back) ≡ true) ↔ ((bit u mask ≡ true) ⊎ (bit u back ≡ true))
+  -- so that demand 2 and requests (i) and (v) hold of the book
+  pub right : (s b : List ℕ) (back room gained : ℕ) → returnFault s b back room gained ≡ 0 →
+      Right (plantOf s) (bitOr (bookMask b) back) (Allowed (plantOf s)) (returnedBook (plantOf s) b back)
+  -- the list: the states kept now and not before, and no others
+  pub gained : (s b : List ℕ) (back room gained : ℕ) → returnFault s b back room gained ≡ 0 → (x : ℕ) →
+      let after = returnedBook (plantOf s) b back in
+      (isIn x (gainedStates b after) ≡ true) ↔
+      ((x < plantOf s .states) × (isLost b x ≡ true) × (isLost after x ≡ false))
+  -- by rising number, and so each once
+  pub rising : (b after : List ℕ) → Rising (gainedStates b after)
+  -- to a book of a making: what is kept before is kept now, and with the states listed that is all
+  pub still-kept : (s : List ℕ) (mask room back next-room gained : ℕ) → makeFault s mask room ≡ 0 →
+      let before = madeBook (plantOf s) mask in
+      returnFault s before back next-room gained ≡ 0 → (x : ℕ) → x < plantOf s .states → isLost before x ≡ false →
+      isLost (returnedBook (plantOf s) before back) x ≡ false
+  pub adds-up : (s : List ℕ) (mask room back next-room gained : ℕ) → makeFault s mask room ≡ 0 →
+      let before = madeBook (plantOf s) mask in
+      let after = returnedBook (plantOf s) before back in
+      returnFault s before back next-room gained ≡ 0 →
+      bookCount before + length (gainedStates before after) ≡ bookCount after
+  -- moves in service withdrawn from such a book and returned: it is as it was, and the states listed are those dropped
+  pub undone : (s : List ℕ) (mask room gone : ℕ) → makeFault s mask room ≡ 0 → bitOr mask gone ≡ mask →
+      let before = madeBook (plantOf s) mask in
+      let after = withdrawnBook (plantOf s) before gone in
+      let again = returnedBook (plantOf s) after gone in
+      (again ≡ before) × (gainedStates after again ≡ droppedStates before after)
 
 -- demand 3: after any list of calls that follows an accepted make
 pub record Demand-3 : Type 0 where

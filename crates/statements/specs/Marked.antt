@@ -1,13 +1,13 @@
 -- The marked examples M1 to M11 of document 01 as one table, with M10 as request (v) has it, and one each for requests
--- (i), (iv), (v) and (vi). Plants and books are written as their two-byte numbers, and so are lists of masks.
+-- (i) and (iv) to (vii). Plants and books are written as their two-byte numbers, and so are lists of masks.
 use mathlib.Core.Path.{_≡_}
 use mathlib.Core.List.{List, [], _∷_, _++_}
 use Prim.Native.Nat.{ℕ, _-_}
 use Rattle.statements.specs.Plants.{plantOf}
 use Rattle.statements.specs.Books.{bytesOf, bookCount, waitAt, moveAt, arrive, goodMoves, madeBook}
-use Rattle.statements.specs.Books.{withdrawnBook, withdrawnList, droppedStates}
-use Rattle.statements.specs.Calls.{makeFault, withdrawFault, withdrawListFault, previewFault, consultFault}
-use Rattle.statements.specs.Calls.{movesFault}
+use Rattle.statements.specs.Books.{withdrawnBook, withdrawnList, returnedBook, droppedStates, gainedStates}
+use Rattle.statements.specs.Calls.{makeFault, withdrawFault, withdrawListFault, returnFault, previewFault}
+use Rattle.statements.specs.Calls.{consultFault, movesFault}
 
 -- strip plant P: header, labels 3 1 5 0, then the eight arrows
 unfoldable pub plantP : List ℕ
@@ -53,6 +53,10 @@ bookBoth = bookP 3 7 (0 ∷ 0 ∷ 2 ∷ 0 ∷ 1 ∷ 2 ∷ 1 ∷ 0 ∷ 0 ∷ 0 �
 
 unfoldable pub bookBoth9 : List ℕ
 bookBoth9 = bookP 2 7 (0 ∷ 0 ∷ 2 ∷ 0 ∷ (lostRow ++ (0 ∷ 0 ∷ 0 ∷ 0 ∷ lostRow)))
+
+-- that of M1 with state 3 kept, which nobody made
+unfoldable pub bookFour : List ℕ
+bookFour = bookP 4 7 (0 ∷ 0 ∷ 2 ∷ 0 ∷ 1 ∷ 2 ∷ 1 ∷ 0 ∷ 1 ∷ 0 ∷ 0 ∷ 0 ∷ 0 ∷ 0 ∷ 0 ∷ 0 ∷ [])
 
 -- one kept state, three moves and three goals with these waits; the move of goal i is i
 unfoldable pub bookThree : ℕ → ℕ → ℕ → List ℕ
@@ -194,3 +198,29 @@ pub record Marked-lists : Type 0 where
   pub first-bad : withdrawListFault plantP bookM1 (bytesOf (8 ∷ 0 ∷ 1 ∷ 0 ∷ [])) 47 8 ≡ 6
   pub last-bad : withdrawListFault plantP bookM1 (bytesOf (1 ∷ 0 ∷ 0 ∷ 1 ∷ [])) 47 8 ≡ 6
   pub unlike : withdrawListFault plantMay bookM1 (255 ∷ []) 47 8 ≡ 4
+
+-- returning a mask to a book for P is accepted with buffers of just their lengths, gives this book and lists these
+pub record Returns (b : List ℕ) (back : ℕ) (after gained : List ℕ) : Type 0 where
+  pub accepted : returnFault plantP b back 48 8 ≡ 0
+  pub short-book : returnFault plantP b back 47 8 ≡ 7
+  pub short-list : returnFault plantP b back 48 7 ≡ 7
+  pub book : returnedBook (plantOf plantP) b back ≡ after
+  pub gains : gainedStates b after ≡ gained
+
+pub record Marked-returns : Type 0 where
+  -- move 2 back in M2's book, which had lost no state, and move 0 back in M3's, which had lost them all: M1's book
+  pub none : Returns bookM2 4 bookM1 []
+  pub all : Returns (allLost 6) 1 bookM1 (0 ∷ 1 ∷ 2 ∷ [])
+  -- two moves of three
+  pub two-moves : Returns (allLost 0) 3 bookM2 (0 ∷ 1 ∷ 2 ∷ [])
+  -- a move that is not enough, and one that was in service all the time beside one that was not
+  pub not-enough : Returns (allLost 2) 4 (allLost 6) []
+  pub in-service : Returns bookM2 6 bookM1 []
+  -- no move: the book of a making stays; in M9's, which nobody made, state 1 comes back
+  pub zero-mask : Returns bookM1 0 bookM1 []
+  pub not-made : Returns bookM9 0 bookM1 (1 ∷ [])
+  -- state 3, kept in a book that nobody made and lost now, is not listed
+  pub lost-now : Returns bookFour 0 bookM1 []
+  -- refused: a mask with a move past the last, before it a book for another plant, both before short buffers
+  pub no-move : returnFault plantP bookM1 8 47 7 ≡ 6
+  pub unlike : returnFault plantMay bookM1 8 47 7 ≡ 4
