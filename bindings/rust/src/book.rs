@@ -1,4 +1,4 @@
-//! The safe wrapper: the seven calls over slices, and a book that owns its bytes.
+//! The safe wrapper: the eight calls over slices, and a book that owns its bytes.
 
 use std::sync::Arc;
 
@@ -36,6 +36,15 @@ pub struct Withdrawn {
     pub length: usize,
     /// How many two-byte numbers of the drop buffer are the states dropped, by rising number.
     pub drops: usize,
+}
+
+/// What an accepted return wrote.
+#[derive(Clone, Copy, Debug, PartialEq, Eq)]
+pub struct Returned {
+    /// How many bytes of the book buffer are the new book.
+    pub length: usize,
+    /// How many two-byte numbers of the buffer for the list are the states gained, by rising number.
+    pub gained: usize,
 }
 
 /// What a withdrawal would cost.
@@ -140,6 +149,35 @@ pub fn withdraw_list_into(
     written(Linked.withdraw_list(plant, book, &mask_bytes(masks), out, drops))
 }
 
+/// Puts the moves of `mask` back in service: writes to the start of `out` the book that [`make_into`] writes for the
+/// moves in service in `book` together with these, and to the start of `gained` the states kept in that one and lost in
+/// `book`, by rising number, as little-endian two-byte numbers. Naming a move that is in service already has no effect.
+/// Of `book` nothing but its moves in service counts for the new book, and nothing but its kept states for the list.
+/// The buffers must be as long as for [`withdraw_into`]. Bytes past what is written stay. A refused call writes
+/// nothing.
+///
+/// ```
+/// let plant = planbook::plants::strip().bytes();
+/// let (mut book, mut out, mut gained) = ([0; 48], [0; 48], [9; 8]);
+/// planbook::make_into(&plant, 0b110, &mut book)?; // without move 0 all is lost
+/// let written = planbook::return_into(&plant, &book, 0b001, &mut out, &mut gained)?;
+/// assert_eq!((written.length, written.gained), (48, 3));
+/// assert_eq!(gained, [0, 0, 1, 0, 2, 0, 9, 9]); // states 0, 1 and 2, and what stood past them
+/// planbook::make_into(&plant, 0b111, &mut book)?;
+/// assert_eq!(out, book);
+/// # Ok::<(), planbook::Refusal>(())
+/// ```
+pub fn return_into(
+    plant: &[u8],
+    book: &[u8],
+    mask: u32,
+    out: &mut [u8],
+    gained: &mut [u8],
+) -> Result<Returned, Refusal> {
+    let Withdrawn { length, drops: gained } = written(Linked.return_moves(plant, book, mask, out, gained))?;
+    Ok(Returned { length, gained })
+}
+
 /// What it would cost to withdraw the moves of `mask` from `book`: writes the states that this would drop to the start
 /// of `drops`, just as [`withdraw_into`] would, and counts those that would be kept. No book is written, and no room
 /// for one is needed. Bytes past the list stay. A refused call writes nothing.
@@ -162,7 +200,7 @@ pub fn preview_into(plant: &[u8], book: &[u8], mask: u32, drops: &mut [u8]) -> R
 
 /// What the book says for a state and the goal sought, when the goals that the state serves are passed: see [`Advice`].
 ///
-/// In a book that was made, or withdrawn from, for the plant, all goals are met again and again if the goal that it
+/// In a book that make, withdraw or return wrote for the plant, all goals are met again and again if the goal that it
 /// says to seek is the one sought in the next state.
 ///
 /// ```
@@ -205,8 +243,8 @@ pub fn row(book: &[u8], state: u32) -> Result<&[u8], Refusal> {
 /// have an arrow there and all of whose arrows end in states that the book keeps and, above wait 0, with a smaller wait
 /// for the goal arrived at, which is the one that [`consult`] says to seek. A lost state has none.
 ///
-/// In a book that was made, or withdrawn from, for this plant a kept state has at least one, the lowest is the one that
-/// consult gives, and any pick, made anew at each step for the goal that consult says to seek, keeps what the book
+/// In a book that make, withdraw or return wrote for this plant a kept state has at least one, the lowest is the one
+/// that consult gives, and any pick, made anew at each step for the goal that consult says to seek, keeps what the book
 /// promises. A book that came about otherwise is read as it stands, and there a kept state may have none.
 ///
 /// ```
@@ -225,7 +263,7 @@ pub fn good_moves(plant: &[u8], book: &[u8], state: u32, goal: u32) -> Result<u3
     Ok(answer.mask)
 }
 
-/// A book that was made, or withdrawn from, for a plant; it holds its own bytes and the plant's, which all books that
+/// A book that make, withdraw or return wrote for a plant; it holds its own bytes and the plant's, which all books that
 /// come of it share.
 ///
 /// ```
@@ -241,6 +279,7 @@ pub fn good_moves(plant: &[u8], book: &[u8], state: u32, goal: u32) -> Result<u3
 /// let (rest, dropped) = book.withdraw(0b001)?;
 /// assert_eq!(rest.kept_count(), 0);
 /// assert_eq!(dropped, [0, 1, 2]);
+/// assert_eq!(rest.return_moves(0b001)?, (book, dropped)); // all are back
 /// # Ok::<(), planbook::Refusal>(())
 /// ```
 #[derive(Clone, Debug, PartialEq, Eq)]
@@ -259,7 +298,7 @@ impl Book {
     }
 
     /// A book from bytes that were kept elsewhere, if the library accepts them as a book for the plant. Whether they are
-    /// those that make or withdraw would write is not looked at.
+    /// those that make, withdraw or return would write is not looked at.
     ///
     /// ```
     /// use planbook::{Book, Refusal};
@@ -279,7 +318,7 @@ impl Book {
     /// The book without the moves of `mask`, and the states kept in this book and lost in that one, by rising number.
     /// Naming a move that is already out of service has no effect.
     pub fn withdraw(&self, mask: u32) -> Result<(Book, Vec<u16>), Refusal> {
-        self.next(|out, list| withdraw_into(&self.plant, &self.bytes, mask, out, list))
+        self.next(|out, list| Linked.withdraw(&self.plant, &self.bytes, mask, out, list))
     }
 
     /// The book without the moves of the masks, withdrawn in turn, each time from the book of the one before; and the
@@ -300,19 +339,36 @@ impl Book {
     /// # Ok::<(), planbook::Refusal>(())
     /// ```
     pub fn withdraw_list(&self, masks: &[u32]) -> Result<(Book, Vec<u16>), Refusal> {
-        self.next(|out, list| withdraw_list_into(&self.plant, &self.bytes, masks, out, list))
+        self.next(|out, list| Linked.withdraw_list(&self.plant, &self.bytes, &mask_bytes(masks), out, list))
     }
 
-    /// The book that a withdrawal from this one writes, and the states that it lists.
-    fn next(
-        &self,
-        withdraw: impl FnOnce(&mut [u8], &mut [u8]) -> Result<Withdrawn, Refusal>,
-    ) -> Result<(Book, Vec<u16>), Refusal> {
+    /// The book with the moves of `mask` back in service, just as [`Book::make`] makes it for these and the moves of
+    /// this book, and the states kept in that one and lost in this one, by rising number. Naming a move that is in
+    /// service already has no effect.
+    ///
+    /// ```
+    /// use planbook::Book;
+    ///
+    /// let plant = planbook::plants::strip().bytes();
+    /// let book = Book::make(&plant, 0b100)?;
+    /// assert_eq!(book.kept_count(), 0);
+    /// let (book, gained) = book.return_moves(0b001)?; // move 0 comes back, and states 0, 1 and 2 with it
+    /// assert_eq!((book.mask(), gained), (0b101, vec![0, 1, 2]));
+    /// let (book, gained) = book.return_moves(0b010)?; // move 1 comes back, and no state was out
+    /// assert_eq!((&book, gained), (&Book::make(&plant, 0b111)?, vec![]));
+    /// # Ok::<(), planbook::Refusal>(())
+    /// ```
+    pub fn return_moves(&self, mask: u32) -> Result<(Book, Vec<u16>), Refusal> {
+        self.next(|out, list| Linked.return_moves(&self.plant, &self.bytes, mask, out, list))
+    }
+
+    /// The book that a withdrawal from this one or a return to it writes, and the states that it lists.
+    fn next(&self, call: impl FnOnce(&mut [u8], &mut [u8]) -> Answer) -> Result<(Book, Vec<u16>), Refusal> {
         let mut bytes = vec![0; self.bytes.len()];
         let mut list = [0; LONGEST_LIST];
-        let written = withdraw(&mut bytes, &mut list)?;
-        bytes.truncate(written.length);
-        Ok((Book { plant: self.plant.clone(), bytes }, listed(&list, written.drops)))
+        let Withdrawn { length, drops } = written(call(&mut bytes, &mut list))?;
+        bytes.truncate(length);
+        Ok((Book { plant: self.plant.clone(), bytes }, listed(&list, drops)))
     }
 
     /// What it would cost to withdraw the moves of `mask`: the states that [`Book::withdraw`] would drop, and how many
@@ -404,7 +460,7 @@ impl Book {
     }
 }
 
-/// The first `count` numbers of a drop list.
+/// The first `count` numbers of a list of states.
 fn listed(list: &[u8], count: usize) -> Vec<u16> {
     list.chunks_exact(2).take(count).map(|pair| number(pair, 0)).collect()
 }

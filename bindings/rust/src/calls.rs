@@ -1,10 +1,10 @@
-//! The seven calls over slices, with the C interface's answers: one trait that the proved library and each second
+//! The eight calls over slices, with the C interface's answers: one trait that the proved library and each second
 //! solver implement, so that tests and benchmarks treat them alike.
 
 use crate::sys::{Advice, Answer, Cost, Mask, Part};
 
-/// A planner: make, withdraw and row as document 01 has them, and moves, preview, consult and the list of withdrawals
-/// as requests (i), (iv), (v) and (vi) of document 02 do, on raw bytes.
+/// A planner: make, withdraw and row as document 01 has them, and moves, preview, consult, the list of withdrawals and
+/// the return of moves as requests (i), (iv), (v), (vi) and (vii) of document 02 do, on raw bytes.
 pub trait Calls {
     /// A short name for tables and messages.
     fn name(&self) -> &'static str;
@@ -20,6 +20,11 @@ pub trait Calls {
     /// book to the start of `out`, and to the start of `drops` the states kept in `book` and lost in that one. `masks`
     /// has four bytes for each, as [`mask_bytes`] lays them out; an empty list acts as one mask of 0.
     fn withdraw_list(&self, plant: &[u8], book: &[u8], masks: &[u8], out: &mut [u8], drops: &mut [u8]) -> Answer;
+
+    /// Puts the moves of `mask` back in service: writes to the start of `out` the book that make writes for the moves
+    /// in service in `book` together with these, and to the start of `gained` the states kept in that one and lost in
+    /// `book`, as two-byte numbers.
+    fn return_moves(&self, plant: &[u8], book: &[u8], mask: u32, out: &mut [u8], gained: &mut [u8]) -> Answer;
 
     /// What it would cost to withdraw the moves of `mask`: writes to the start of `drops` what withdraw would, and no
     /// book.
@@ -47,6 +52,33 @@ pub fn mask_bytes(masks: &[u32]) -> Vec<u8> {
 #[derive(Clone, Copy, Debug)]
 pub struct Linked;
 
+/// A C function that takes a plant, a book and a mask, and writes a book and a list of states.
+#[cfg(feature = "linked")]
+type Rewrite = unsafe extern "C" fn(*const u8, usize, *const u8, usize, u32, *mut u8, usize, *mut u8, usize) -> Answer;
+
+/// Hands the slices to such a function.
+///
+/// # Safety
+/// It asks for no more than that each pointer is good for its length, and that those written do not overlap with any
+/// other.
+#[cfg(feature = "linked")]
+unsafe fn rewrite(call: Rewrite, plant: &[u8], book: &[u8], mask: u32, out: &mut [u8], list: &mut [u8]) -> Answer {
+    // SAFETY: each pointer and length is a slice's own, and `out` and `list` are each borrowed alone.
+    unsafe {
+        call(
+            plant.as_ptr(),
+            plant.len(),
+            book.as_ptr(),
+            book.len(),
+            mask,
+            out.as_mut_ptr(),
+            out.len(),
+            list.as_mut_ptr(),
+            list.len(),
+        )
+    }
+}
+
 #[cfg(feature = "linked")]
 impl Calls for Linked {
     fn name(&self) -> &'static str {
@@ -59,20 +91,8 @@ impl Calls for Linked {
     }
 
     fn withdraw(&self, plant: &[u8], book: &[u8], mask: u32, out: &mut [u8], drops: &mut [u8]) -> Answer {
-        // SAFETY: each pointer and length is a slice's own, and `out` and `drops` are each borrowed alone.
-        unsafe {
-            crate::sys::planbook_withdraw(
-                plant.as_ptr(),
-                plant.len(),
-                book.as_ptr(),
-                book.len(),
-                mask,
-                out.as_mut_ptr(),
-                out.len(),
-                drops.as_mut_ptr(),
-                drops.len(),
-            )
-        }
+        // SAFETY: this function asks for no more than that.
+        unsafe { rewrite(crate::sys::planbook_withdraw, plant, book, mask, out, drops) }
     }
 
     fn withdraw_list(&self, plant: &[u8], book: &[u8], masks: &[u8], out: &mut [u8], drops: &mut [u8]) -> Answer {
@@ -91,6 +111,11 @@ impl Calls for Linked {
                 drops.len(),
             )
         }
+    }
+
+    fn return_moves(&self, plant: &[u8], book: &[u8], mask: u32, out: &mut [u8], gained: &mut [u8]) -> Answer {
+        // SAFETY: this function asks for no more than that.
+        unsafe { rewrite(crate::sys::planbook_return, plant, book, mask, out, gained) }
     }
 
     fn preview(&self, plant: &[u8], book: &[u8], mask: u32, drops: &mut [u8]) -> Cost {

@@ -39,6 +39,12 @@ pub struct Comparison<'a> {
     late: u64,
     /// Such lists in which two single withdrawals or more drop states.
     repeated: u64,
+    /// Returns that are accepted.
+    returns: u64,
+    /// Such returns that list states.
+    gaining: u64,
+    /// Such returns whose book has lost a state that the book handed in keeps, which is then one that nobody made.
+    losing: u64,
 }
 
 /// A buffer with watched bytes on each side, filled with a pattern.
@@ -59,11 +65,18 @@ impl Buffer {
     }
 }
 
-/// What a withdrawal answers and leaves in its buffers.
+/// What a withdrawal or a return answers and leaves in its buffers.
 struct Outcome {
     answer: Answer,
     book: Buffer,
     list: Buffer,
+}
+
+impl Outcome {
+    /// The bytes of the states that are listed.
+    fn listed(&mut self) -> &[u8] {
+        &self.list.lent()[..2 * self.answer.drops as usize]
+    }
 }
 
 impl<'a> Comparison<'a> {
@@ -83,6 +96,9 @@ impl<'a> Comparison<'a> {
             lists: 0,
             late: 0,
             repeated: 0,
+            returns: 0,
+            gaining: 0,
+            losing: 0,
         }
     }
 
@@ -101,17 +117,23 @@ impl<'a> Comparison<'a> {
         [self.late, self.repeated]
     }
 
+    /// How many accepted returns listed states, and how many were of a book that keeps a state which theirs has lost.
+    pub fn returns(&self) -> [u64; 2] {
+        [self.gaining, self.losing]
+    }
+
     /// What was compared so far, in words.
     pub fn summary(&self) -> String {
         let [ours, second] = [self.ours, self.second].map(|planner| planner.name());
         let Comparison { calls, refused, mixed, partial, previewed, choices, passes, all_served, .. } = self;
-        let Comparison { lists, late, repeated, .. } = self;
+        let Comparison { lists, late, repeated, returns, gaining, losing, .. } = self;
         format!(
             "{ours} and {second} do not differ in {calls} calls, of which {refused} are refused, {mixed} write a book \
              with kept and lost states, {partial} drop some states and keep others, {previewed} preview that, \
              {choices} find more than one good move, {passes} consults pass goals, {all_served} find all of several \
-             goals served, and {lists} are accepted lists of withdrawals, in {late} of which one after the first drops \
-             states and in {repeated} two or more do"
+             goals served, {lists} are accepted lists of withdrawals, in {late} of which one after the first drops \
+             states and in {repeated} two or more do, and {returns} are accepted returns, of which {gaining} list \
+             states and {losing} have lost a state that the book handed in keeps"
         )
     }
 
@@ -131,37 +153,37 @@ impl<'a> Comparison<'a> {
 
     /// Compares a withdrawal with buffers of these lengths, and hands back the answer and the book, empty if refused.
     pub fn withdraw(&mut self, plant: &[u8], book: &[u8], mask: u32, lengths: [usize; 2]) -> (Answer, Vec<u8>) {
+        let ours = self.withdrawal(plant, book, mask, lengths);
+        self.count_withdrawal(ours)
+    }
+
+    /// Compares a withdrawal, and does not count it.
+    fn withdrawal(&self, plant: &[u8], book: &[u8], mask: u32, lengths: [usize; 2]) -> Outcome {
         let input = || format!("withdraw, mask {mask:#x}, buffers {lengths:?}, {}", both(plant, book));
-        let before = [plant, book].map(<[u8]>::to_vec);
-        let [ours, second] = [self.ours, self.second]
-            .map(|planner| self.outcome(lengths, |out, list| planner.withdraw(plant, book, mask, out, list)));
-        self.same_outcome(&ours, &second, &input);
-        self.only_read([plant, book], before, &input);
-        self.written(ours.answer, ours.book)
+        self.same_from_both([plant, book], lengths, &input, |planner, out, list| {
+            planner.withdraw(plant, book, mask, out, list)
+        })
     }
 
     /// Compares a list of withdrawals with buffers of these lengths, and hands back the answer and the book, empty if
     /// refused. It must be what the single withdrawals in turn come to, and what one withdrawal of all the moves does.
     pub fn withdraw_list(&mut self, plant: &[u8], book: &[u8], masks: &[u8], lengths: [usize; 2]) -> (Answer, Vec<u8>) {
         let input = || format!("withdraw list, masks {}, buffers {lengths:?}, {}", hex(masks), both(plant, book));
-        let before = [plant, book, masks].map(<[u8]>::to_vec);
-        let [ours, second] = [self.ours, self.second]
-            .map(|planner| self.outcome(lengths, |out, list| planner.withdraw_list(plant, book, masks, out, list)));
-        self.same_outcome(&ours, &second, &input);
-        self.only_read([plant, book, masks], before, &input);
-        let alone = |what| format!("{} alone, with {what} second: {}", self.ours.name(), input());
-        let at_once = || alone("its withdrawal of all these moves");
+        let ours = self.same_from_both([plant, book, masks], lengths, &input, |planner, out, list| {
+            planner.withdraw_list(plant, book, masks, out, list)
+        });
+        let at_once = || alone(self.ours, "its withdrawal of all these moves", &input);
         let expected = self.at_once(plant, book, masks, lengths);
         self.same_answer([ours.answer.number, expected.answer.number], &at_once);
         if let (0, Ok(masks)) = (ours.answer.number, read_masks(masks)) {
-            let in_turn = || alone("its single withdrawals in turn");
+            let in_turn = || alone(self.ours, "its single withdrawals in turn", &input);
             let drops = self.in_turn(plant, book, &masks, &ours, &in_turn);
             self.lists += 1;
             self.late += u64::from(drops[1..].iter().any(|&drops| drops != 0));
             self.repeated += u64::from(drops.iter().filter(|&&drops| drops != 0).count() > 1);
         }
         self.same_outcome(&ours, &expected, &at_once);
-        self.written(ours.answer, ours.book)
+        self.count_withdrawal(ours)
     }
 
     /// What a list must answer and leave: what the same planner's withdrawal of all its moves does. One whose length is
@@ -198,16 +220,66 @@ impl<'a> Comparison<'a> {
             answer.drops
         };
         let drops = masks.iter().map(single).collect();
-        let dropped = (0..number(book, 0)).filter(|&state| is_kept(book, state) && !is_kept(&last, state));
-        let dropped: Vec<u8> = dropped.flat_map(u16::to_le_bytes).collect();
         let lengths = [&listed.book, &listed.list].map(|buffer| buffer.length);
         let expected = self.outcome(lengths, |out, list| {
             out[..last.len()].copy_from_slice(&last);
-            list[..dropped.len()].copy_from_slice(&dropped);
-            Answer { number: 0, length: last.len() as u32, drops: dropped.len() as u32 / 2 }
+            Answer { number: 0, length: last.len() as u32, drops: list_states(kept_in_the_first(book, &last), list) }
         });
         self.same_outcome(listed, &expected, input);
         drops
+    }
+
+    /// Compares a return with buffers of these lengths, and hands back the answer and the book, empty if refused. It
+    /// must be refused as the withdrawal of these moves is, and be what a making comes to.
+    pub fn return_moves(&mut self, plant: &[u8], book: &[u8], mask: u32, lengths: [usize; 2]) -> (Answer, Vec<u8>) {
+        let ours = self.returning(plant, book, mask, lengths);
+        self.count_return(book, ours)
+    }
+
+    /// Compares a return, and does not count it.
+    fn returning(&self, plant: &[u8], book: &[u8], mask: u32, lengths: [usize; 2]) -> Outcome {
+        let input = || format!("return, mask {mask:#x}, buffers {lengths:?}, {}", both(plant, book));
+        let ours = self.same_from_both([plant, book], lengths, &input, |planner, out, list| {
+            planner.return_moves(plant, book, mask, out, list)
+        });
+        let withdrawn = self.outcome(lengths, |out, list| self.ours.withdraw(plant, book, mask, out, list));
+        let refused_alike = || alone(self.ours, "its withdrawal", &input);
+        self.same_answer([ours.answer.number, withdrawn.answer.number], &refused_alike);
+        let made = self.outcome(lengths, |out, list| match ours.answer.number {
+            0 => self.made_with(plant, book, mask, out, list),
+            number => Answer::refused(number),
+        });
+        self.same_outcome(&ours, &made, &|| alone(self.ours, "its making", &input));
+        ours
+    }
+
+    /// What an accepted return must answer and leave: the book that the same planner makes for the moves in service and
+    /// those returned, and the states that its rows keep and those of the book handed in do not, by rising number.
+    fn made_with(&self, plant: &[u8], book: &[u8], mask: u32, out: &mut [u8], list: &mut [u8]) -> Answer {
+        match self.ours.make(plant, in_service(book) | mask, out) {
+            made @ Answer { number: 0, .. } => {
+                Answer { drops: list_states(kept_in_the_first(out, book), list), ..made }
+            }
+            refused => refused,
+        }
+    }
+
+    /// Compares a withdrawal from a book that was made, and then the return of the moves that it took out of service:
+    /// that gives the first book again, and lists as gained the states listed as dropped. Hands back what the
+    /// withdrawal gave.
+    pub fn there_and_back(&mut self, plant: &[u8], book: &[u8], mask: u32, lengths: [usize; 2]) -> (Answer, Vec<u8>) {
+        let mut there = self.withdrawal(plant, book, mask, lengths);
+        let dropped = there.listed().to_vec();
+        let (answer, rest) = self.count_withdrawal(there);
+        if answer.number == 0 {
+            let taken = in_service(book) & mask;
+            let mut back = self.returning(plant, &rest, taken, lengths);
+            let input = || format!("return of mask {taken:#x}, just withdrawn, {}", both(plant, book));
+            self.same_bytes("drop lists", back.listed(), &dropped, &input);
+            let (_, again) = self.count_return(&rest, back);
+            self.same_bytes("book", &again, book, &input);
+        }
+        (answer, rest)
     }
 
     /// Compares a preview with a drop buffer of this length, and hands back the answer. It must be what the withdrawal
@@ -222,7 +294,7 @@ impl<'a> Comparison<'a> {
         self.same_answer(costs, &input);
         self.only_read([plant, book], before, &input);
         self.same_buffers("drop buffer", lists.each_ref(), costs[0].number, &input);
-        let alone = || format!("{} alone, with its withdrawal second: {}", self.ours.name(), input());
+        let alone = || alone(self.ours, "its withdrawal", &input);
         let (withdrawn, list) = self.withdrawn(plant, book, mask, length);
         self.same_answer([costs[0], withdrawn], &alone);
         self.same_bytes("drop buffer", &lists[0].bytes, &list.bytes, &alone);
@@ -251,7 +323,7 @@ impl<'a> Comparison<'a> {
         self.same_answer(advice, &input);
         let [Advice { number: refused, lost, wait, seek, .. }, _] = advice;
         if refused == 0 {
-            let alone = || format!("{} alone, with goal {seek} second: {}", self.ours.name(), input());
+            let alone = || alone(self.ours, &format!("goal {seek}"), &input);
             self.same_answer([advice[0], self.ours.consult(book, state, seek)], &alone);
         }
         if (refused, lost) == (0, 0) {
@@ -282,7 +354,7 @@ impl<'a> Comparison<'a> {
         self.only_read([plant, book], before, &input);
         if sets[0].number == 0 {
             let Advice { seek, .. } = self.ours.consult(book, state, goal);
-            let alone = || format!("{} alone, with goal {seek} second: {}", self.ours.name(), input());
+            let alone = || alone(self.ours, &format!("goal {seek}"), &input);
             self.same_answer([sets[0], self.ours.moves(plant, book, state, seek)], &alone);
         }
         self.count(sets[0].number);
@@ -299,14 +371,31 @@ impl<'a> Comparison<'a> {
         self.same_bytes("book", book, &afresh, &input);
     }
 
-    /// What a withdrawal answers and leaves in a book buffer and a drop buffer of these lengths.
-    fn outcome(&self, lengths: [usize; 2], withdraw: impl FnOnce(&mut [u8], &mut [u8]) -> Answer) -> Outcome {
+    /// What a call answers and leaves in a book buffer and a drop buffer of these lengths.
+    fn outcome(&self, lengths: [usize; 2], call: impl FnOnce(&mut [u8], &mut [u8]) -> Answer) -> Outcome {
         let [mut book, mut list] = lengths.map(|length| Buffer::new(length, self.calls));
-        let answer = withdraw(book.lent(), list.lent());
+        let answer = call(book.lent(), list.lent());
         Outcome { answer, book, list }
     }
 
-    /// Two withdrawals have the same answer, and the same bytes in their buffers and beside them.
+    /// Makes a call with such buffers on both planners, which must come to the same and leave what is lent to read as
+    /// it was; hands back what ours came to.
+    fn same_from_both<const N: usize>(
+        &self,
+        lent: [&[u8]; N],
+        lengths: [usize; 2],
+        input: &dyn Fn() -> String,
+        call: impl Fn(&dyn Calls, &mut [u8], &mut [u8]) -> Answer,
+    ) -> Outcome {
+        let before = lent.map(<[u8]>::to_vec);
+        let [ours, second] =
+            [self.ours, self.second].map(|planner| self.outcome(lengths, |out, list| call(planner, out, list)));
+        self.same_outcome(&ours, &second, input);
+        self.only_read(lent, before, input);
+        ours
+    }
+
+    /// Two calls have the same answer, and the same bytes in their buffers and beside them.
     fn same_outcome(&self, ours: &Outcome, second: &Outcome, input: &dyn Fn() -> String) {
         let answers = [ours.answer, second.answer];
         self.same_answer(answers, input);
@@ -321,7 +410,24 @@ impl<'a> Comparison<'a> {
         if answer.number == 0 {
             let (states, kept) = (number(&book, 0).into(), kept_count(&book));
             self.mixed += u64::from(kept != 0 && kept != states);
-            self.partial += u64::from(kept != 0 && answer.drops != 0);
+        }
+        (answer, book)
+    }
+
+    /// Counts a withdrawal, and hands back the answer and the book.
+    fn count_withdrawal(&mut self, ours: Outcome) -> (Answer, Vec<u8>) {
+        let (answer, book) = self.written(ours.answer, ours.book);
+        self.partial += u64::from(answer.number == 0 && answer.drops != 0 && kept_count(&book) != 0);
+        (answer, book)
+    }
+
+    /// Counts a return to a book, and hands back the answer and the new book.
+    fn count_return(&mut self, before: &[u8], ours: Outcome) -> (Answer, Vec<u8>) {
+        let (answer, book) = self.written(ours.answer, ours.book);
+        if answer.number == 0 {
+            self.returns += 1;
+            self.gaining += u64::from(answer.drops != 0);
+            self.losing += u64::from(kept_in_the_first(before, &book).next().is_some());
         }
         (answer, book)
     }
@@ -372,9 +478,31 @@ fn kept_count(book: &[u8]) -> u32 {
     number(book, 6).into()
 }
 
+/// The moves in service in a book.
+fn in_service(book: &[u8]) -> u32 {
+    u32::from(number(book, 8)) | u32::from(number(book, 10)) << 16
+}
+
+/// The states that the first book keeps and the other has lost, by rising number.
+fn kept_in_the_first<'a>(first: &'a [u8], other: &'a [u8]) -> impl Iterator<Item = u16> + 'a {
+    (0..number(first, 0)).filter(|&state| is_kept(first, state) && !is_kept(other, state))
+}
+
+/// Writes the numbers of these states to the start of a list; answers how many.
+fn list_states(states: impl Iterator<Item = u16>, list: &mut [u8]) -> u32 {
+    let bytes: Vec<u8> = states.flat_map(u16::to_le_bytes).collect();
+    list[..bytes.len()].copy_from_slice(&bytes);
+    bytes.len() as u32 / 2
+}
+
 /// Whether a state's row is not lost.
 fn is_kept(book: &[u8], state: u16) -> bool {
     number(book, 16 + 4 * usize::from(state) * usize::from(number(book, 4))) != LOST
+}
+
+/// The input of a call on one planner alone, which is held against something else that the same planner says.
+fn alone(planner: &dyn Calls, second: &str, input: &dyn Fn() -> String) -> String {
+    format!("{} alone, with {second} second: {}", planner.name(), input())
 }
 
 /// A book and a plant in hex.

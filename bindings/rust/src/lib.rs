@@ -6,8 +6,8 @@
 //! forces the goal. Both are bytes; their formats are in the repository's docs/FORMATS.md.
 //!
 //! With the feature `linked`, which is on by default, [`Book`] and the functions [`make_into`], [`withdraw_into`],
-//! [`withdraw_list_into`], [`preview_into`], [`consult`], [`row`] and [`good_moves`] call the proved library. They take
-//! slices, answer a [`Result`] with a [`Refusal`], and need no `unsafe` in the caller's code.
+//! [`withdraw_list_into`], [`return_into`], [`preview_into`], [`consult`], [`row`] and [`good_moves`] call the proved
+//! library. They take slices, answer a [`Result`] with a [`Refusal`], and need no `unsafe` in the caller's code.
 //!
 #![cfg_attr(feature = "linked", doc = "```")]
 #![cfg_attr(not(feature = "linked"), doc = "```ignore")]
@@ -34,6 +34,11 @@
 //! let (book, dropped) = book.withdraw(0b100)?;
 //! assert_eq!(dropped, []);
 //! assert_eq!(book.consult(1, 0)?, Advice::Move { action: 0, wait: 2, seek: 0 });
+//!
+//! // Move 2 comes back in service: the short way is there again, and no state is gained, since none was lost.
+//! let (book, gained) = book.return_moves(0b100)?;
+//! assert_eq!((book.mask(), gained), (0b111, vec![]));
+//! assert_eq!(book.consult(1, 0)?, Advice::Move { action: 2, wait: 1, seek: 0 });
 //! # Ok::<(), planbook::Refusal>(())
 //! ```
 //!
@@ -56,6 +61,6 @@ pub use refusal::Refusal;
 #[cfg(feature = "linked")]
 mod book;
 #[cfg(feature = "linked")]
-pub use book::{consult, good_moves, make_into, preview_into, row, withdraw_into, withdraw_list_into};
+pub use book::{consult, good_moves, make_into, preview_into, return_into, row, withdraw_into, withdraw_list_into};
 #[cfg(feature = "linked")]
-pub use book::{Advice, Book, Cost, Entry, Preview, Withdrawn};
+pub use book::{Advice, Book, Cost, Entry, Preview, Returned, Withdrawn};

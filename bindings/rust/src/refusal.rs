@@ -64,7 +64,7 @@ const KNOWN: [(Refusal, &str); 9] = [
     (
         Refusal::Buffer,
         "a buffer is too short (book buffer or drop buffer): lend at least 16 + 4SN bytes for the book and 2S for the \
-         states dropped",
+         states dropped or gained",
     ),
     (
         Refusal::OutOfBook,

@@ -1,5 +1,5 @@
 //! The C interface as it is declared in `include/planbook.h`: the longest buffers, its answers, and with the feature
-//! `linked` its seven functions. The functions are unsafe to call; [`crate::make_into`] and its neighbours are the safe
+//! `linked` its eight functions. The functions are unsafe to call; [`crate::make_into`] and its neighbours are the safe
 //! way.
 //!
 //! A refused answer has its number and 0 in every other field, and so has a lost one beside its `lost`.
@@ -7,13 +7,13 @@
 /// The longest book: 16 + 4SN bytes for S 1,024 and N 8 (`PLANBOOK_BOOK_MAX` in C).
 pub const LONGEST_BOOK: usize = 16 + 4 * 1024 * 8;
 
-/// The most bytes of a list of dropped states: 2S for S 1,024 (`PLANBOOK_DROPS_MAX` in C).
+/// The most bytes of a list of states, dropped or gained: 2S for S 1,024 (`PLANBOOK_DROPS_MAX` in C).
 pub const LONGEST_LIST: usize = 2 * 1024;
 
 /// The most bytes of a list of masks: 4 for each of 16 (`PLANBOOK_MASKS_MAX` in C).
 pub const LONGEST_MASKS: usize = 4 * 16;
 
-/// What make, withdraw and a list of withdrawals answer.
+/// What make, withdraw, a list of withdrawals and return answer.
 #[repr(C)]
 #[derive(Clone, Copy, Debug, Default, PartialEq, Eq)]
 pub struct Answer {
@@ -21,7 +21,7 @@ pub struct Answer {
     pub number: u32,
     /// How many bytes of the book buffer are the book.
     pub length: u32,
-    /// How many states the drop buffer lists. Always 0 for make.
+    /// How many states the drop buffer lists: those dropped or, by return, those gained. Always 0 for make.
     pub drops: u32,
 }
 
@@ -128,6 +128,23 @@ extern "C" {
         out_len: usize,
         drops: *mut u8,
         drops_len: usize,
+    ) -> Answer;
+
+    /// Writes the book with the moves of `mask` back in service, and the states gained.
+    ///
+    /// # Safety
+    /// Each pointer is good for its length, to read (`plant`, `book`) or to write (`out`, `gained`), and those written
+    /// do not overlap with any other.
+    pub fn planbook_return(
+        plant: *const u8,
+        plant_len: usize,
+        book: *const u8,
+        book_len: usize,
+        mask: u32,
+        out: *mut u8,
+        out_len: usize,
+        gained: *mut u8,
+        gained_len: usize,
     ) -> Answer;
 
     /// Writes the states that a withdrawal of the moves of `mask` would drop, and no book.

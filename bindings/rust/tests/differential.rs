@@ -24,6 +24,11 @@ fn documents_01_and_02() {
     document::previews_of_the_longest(&Linked);
     document::lists(&Linked);
     document::lists_that_drop_with_each_mask(&Linked);
+    document::returns(&Linked);
+    document::returns_to_invented_books(&Linked);
+    document::returns_that_gain_with_each_move(&Linked);
+    document::returns_of_the_longest(&Linked);
+    document::gained_lists(&Linked);
     document::good_moves(&Linked);
     document::good_moves_of_the_longest(&Linked);
     document::arrivals(&Linked);
@@ -43,6 +48,21 @@ fn previews_come_true() {
 #[test]
 fn lists_come_to_the_withdrawals_in_turn() {
     promises::lists_come_to_the_withdrawals_in_turn(&Linked);
+}
+
+#[test]
+fn returns_undo_withdrawals() {
+    promises::returns_undo_withdrawals(&Linked);
+}
+
+#[test]
+fn returns_come_to_a_making() {
+    promises::returns_come_to_a_making(&Linked);
+}
+
+#[test]
+fn lists_of_calls_come_to_a_making() {
+    promises::lists_of_calls_come_to_a_making(&Linked);
 }
 
 #[test]
@@ -67,21 +87,24 @@ fn exhaustive_rounds() {
 #[test]
 fn random_rounds() {
     let calls = std::env::var("PLANBOOK_CALLS").map_or(300_000, |word| word.parse().expect("a number of calls"));
-    // In all rounds together, how many consults pass goals, and how many find all of several goals served; and in how
-    // many lists of withdrawals one after the first drops states, and in how many two or more do.
-    let (mut arrivals, mut lists) = ([0; 2], [0; 2]);
+    // In all rounds together, how many consults pass goals, and how many find all of several goals served; in how many
+    // lists of withdrawals one after the first drops states, and in how many two or more do; and how many returns list
+    // states, and how many have lost a state that the book handed in keeps.
+    let (mut arrivals, mut lists, mut returns) = ([0; 2], [0; 2], [0; 2]);
     for (name, round) in rounds::RANDOM_ROUNDS {
         let mut comparison = Comparison::new(&Linked, &Fast);
         let rounds = rounds::run(&mut comparison, round, SEED, calls);
         println!("{name}, {rounds} rounds from seed {SEED}: {}", comparison.summary());
         arrivals = std::array::from_fn(|at| arrivals[at] + comparison.arrivals()[at]);
         lists = std::array::from_fn(|at| lists[at] + comparison.lists()[at]);
+        returns = std::array::from_fn(|at| returns[at] + comparison.returns()[at]);
     }
     assert!(arrivals.iter().all(|&many| many > calls / 20), "{arrivals:?} arrivals");
     assert!(lists.iter().all(|&many| many > calls / 100), "{lists:?} lists of withdrawals");
+    assert!(returns.iter().all(|&many| many > calls / 50), "{returns:?} returns");
 }
 
-/// All families at their largest: made, and each move withdrawn in turn, by single calls and by lists.
+/// All families at their largest: made, each move withdrawn in turn, by single calls and by lists, and some returned.
 #[test]
 fn families() {
     let mut comparison = Comparison::new(&Linked, &Fast);

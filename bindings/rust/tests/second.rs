@@ -18,6 +18,8 @@ fn marked_examples() {
         document::further_examples(planner);
         document::previews(planner);
         document::lists(planner);
+        document::returns(planner);
+        document::returns_to_invented_books(planner);
         document::good_moves(planner);
         document::arrivals(planner);
     }
@@ -52,6 +54,9 @@ fn refusals_and_limits() {
         document::refusals(planner);
         document::drop_lists(planner);
         document::lists_that_drop_with_each_mask(planner);
+        document::returns_that_gain_with_each_move(planner);
+        document::returns_of_the_longest(planner);
+        document::gained_lists(planner);
         document::previews_of_the_longest(planner);
         document::good_moves_of_the_longest(planner);
     }
@@ -62,6 +67,9 @@ fn promises() {
     promises::drop_lists_are_read_from_the_books(&Fast);
     promises::previews_come_true(&Fast);
     promises::lists_come_to_the_withdrawals_in_turn(&Fast);
+    promises::returns_undo_withdrawals(&Fast);
+    promises::returns_come_to_a_making(&Fast);
+    promises::lists_of_calls_come_to_a_making(&Fast);
     promises::sets_are_those_of_the_rule(&Fast);
     promises::following_meets_the_goals(&Fast);
 }
@@ -113,7 +121,32 @@ fn brute_force_agrees_on_tiny_plants() {
     assert!(late > 3_000 && repeated > 600);
 }
 
-/// Withdrawals from books that nobody made, some by lists, by brute force.
+/// Tiny plants that keep states when all moves are in service, made with every mask: all moves that are out come back,
+/// by brute force and by sweeps.
+#[test]
+fn brute_force_agrees_on_returns() {
+    let mut brute = Comparison::new(&Brute, &Fast);
+    let mut plain = Comparison::new(&Plain, &Fast);
+    for seed in 0..30_000 {
+        let model = plants::tiny(&mut Random::new(seed));
+        let plant = model.bytes();
+        let every_move = model.every_move();
+        let book_length = 16 + 4 * model.labels.len() * usize::from(model.goals);
+        let lengths = [book_length, 2 * model.labels.len()];
+        let little = effort(&Plant::read(&plant).expect("a tiny plant"), every_move) <= 100.0;
+        if little && plain.make(&plant, every_move, book_length).1[6] != 0 {
+            for made in 0..every_move {
+                let (_, book) = plain.make(&plant, made, book_length);
+                brute.return_moves(&plant, &book, every_move & !made, lengths);
+                plain.return_moves(&plant, &book, every_move & !made, lengths);
+            }
+        }
+    }
+    println!("tiny plants: {}; {}", brute.summary(), plain.summary());
+    assert!(brute.returns()[0] > 10_000);
+}
+
+/// Withdrawals from books that nobody made, some by lists, and returns to them, by brute force.
 #[test]
 fn brute_force_agrees_on_invented_books() {
     let mut comparison = Comparison::new(&Brute, &Fast);
@@ -130,10 +163,11 @@ fn brute_force_agrees_on_invented_books() {
     println!("{tried} tiny plants: {}", comparison.summary());
     let ([passes, all_served], [late, repeated]) = (comparison.arrivals(), comparison.lists());
     assert!(tried > 3_000 && passes > 5_000 && all_served > 5_000 && late > 60 && repeated > 30);
+    assert!(comparison.returns().iter().all(|&many| many > 100));
 }
 
-/// All families at all sizes: sweeps and worklist agree on makes, and on withdrawals of one move after another, by
-/// single calls and by lists.
+/// All families at all sizes: sweeps and worklist agree on makes, on withdrawals of one move after another, by single
+/// calls and by lists, and on returns.
 #[test]
 fn sweeps_and_worklist_agree_on_families() {
     let mut comparison = Comparison::new(&Plain, &Fast);
@@ -160,4 +194,6 @@ fn sweeps_and_worklist_agree_in_every_round() {
     println!("{}", comparison.summary());
     let ([passes, all_served], [late, repeated]) = (comparison.arrivals(), comparison.lists());
     assert!(passes > 5_000 && all_served > 2_000 && late > 800 && repeated > 300);
+    let [gaining, losing] = comparison.returns();
+    assert!(gaining > 2_000 && losing > 1_500);
 }

@@ -2,8 +2,8 @@
 
 #![deny(warnings)]
 
-use planbook::{consult, good_moves, make_into, plants, preview_into, row, withdraw_into, withdraw_list_into};
-use planbook::{Advice, Book, Cost, Entry, Preview, Refusal, Withdrawn};
+use planbook::{consult, good_moves, make_into, plants, preview_into, return_into, row, withdraw_into};
+use planbook::{withdraw_list_into, Advice, Book, Cost, Entry, Preview, Refusal, Returned, Withdrawn};
 
 #[test]
 fn a_book_owns_its_bytes_and_the_plant() {
@@ -79,11 +79,8 @@ fn a_list_is_the_withdrawals_in_turn() {
     assert_eq!((book.withdraw_list(&[1, 8]), book.withdraw_list(&[8, 1])), (Err(Refusal::Mask), Err(Refusal::Mask)));
     assert_eq!(book.withdraw_list(&[8; 17]), Err(Refusal::MaskList));
 
-    // M9's book, which nobody made: row 1 is lost, and an empty list drops states 0 and 2.
-    let mut bytes = changed(book.bytes(), 6, 2);
-    bytes[24..32].fill(0xff);
-    let book = Book::from_bytes(&plant, &bytes).expect("accepted all the same");
-    let (rest, dropped) = book.withdraw_list(&[]).expect("nothing is named");
+    // M9's book, which nobody made: an empty list drops states 0 and 2.
+    let (rest, dropped) = m9_book(&book).withdraw_list(&[]).expect("nothing is named");
     assert_eq!((rest.kept_count(), rest.mask(), dropped), (0, 7, vec![0, 2]));
 
     // 16 masks of a move each, from the highest down.
@@ -99,6 +96,43 @@ fn a_list_is_the_withdrawals_in_turn() {
         dropped.sort_unstable();
         assert_eq!(made.withdraw_list(&masks[..count]), Ok((last, dropped)), "{count} masks");
     }
+}
+
+/// M9's book, which nobody made: M1's with row 1 lost.
+fn m9_book(m1: &Book) -> Book {
+    let mut bytes = changed(m1.bytes(), 6, 2);
+    bytes[24..32].fill(0xff);
+    Book::from_bytes(m1.plant(), &bytes).expect("accepted all the same")
+}
+
+#[test]
+fn moves_come_back_in_service() {
+    let plant = plants::strip().bytes();
+    let m1 = Book::make(&plant, 7).expect("P is a plant");
+    let (m2, _) = m1.withdraw(4).expect("move 2 exists");
+    assert_eq!(m2.return_moves(4), Ok((m1.clone(), vec![])));
+    assert_eq!(m2.return_moves(5), Ok((m1.clone(), vec![]))); // move 0 is in service already
+    assert_eq!(m2.return_moves(0), Ok((m2.clone(), vec![])));
+    assert_eq!((m2.return_moves(8), m2.return_moves(1 << 31)), (Err(Refusal::Mask), Err(Refusal::Mask)));
+    let (lost, dropped) = m1.withdraw(1).expect("move 0 exists"); // M3
+    assert_eq!(lost.return_moves(1), Ok((m1.clone(), dropped)));
+    assert_eq!(lost.return_moves(1).map(|(_, gained)| gained), Ok(vec![0, 1, 2]));
+    assert_eq!(m9_book(&m1).return_moves(0), Ok((m1.clone(), vec![1])));
+
+    // The upper half of 16 moves goes by a list, and comes back from the lowest up.
+    let model = plants::Family::Random.build(200, 3);
+    let made = Book::make(&model.bytes(), model.every_move()).expect("a plant");
+    let masks: Vec<u32> = (8..16).map(|action| 1 << action).collect();
+    let (mut book, dropped) = made.withdraw_list(&masks).expect("moves of the plant");
+    let mut gained = Vec::new();
+    for mask in masks {
+        let (next, more) = book.return_moves(mask).expect("a move of the plant");
+        assert_eq!((next.mask(), more.len() as u16), (book.mask() | mask, next.kept_count() - book.kept_count()));
+        gained.extend(more);
+        book = next;
+    }
+    gained.sort_unstable();
+    assert_eq!((book, gained), (made, dropped));
 }
 
 #[test]
@@ -190,4 +224,27 @@ fn every_refusal_of_a_list_has_its_name() {
     assert_eq!(list(&plant, &book, &[2, 4], [47, 8]), Err(Refusal::Buffer));
     assert_eq!(list(&plant, &book, &[2, 4], [48, 7]), Err(Refusal::Buffer));
     assert_eq!(list(&plant, &book, &[2, 4], [48, 8]), Ok(Withdrawn { length: 48, drops: 0 }));
+}
+
+#[test]
+fn every_refusal_of_a_return_has_its_name() {
+    let plant = plants::strip().bytes();
+    let (mut book, mut out, mut gained) = ([0; 48], [0; 48], [9; 8]);
+    assert_eq!(make_into(&plant, 6, &mut book), Ok(48));
+    let mut give_back = |plant: &[u8], book: &[u8], mask, lengths: [usize; 2]| {
+        return_into(plant, book, mask, &mut out[..lengths[0]], &mut gained[..lengths[1]])
+    };
+    // Each with faults that come after it: a mask that is bad, and buffers too short.
+    assert_eq!(give_back(&plant[..71], &book, 8, [47, 7]), Err(Refusal::PlantHeader));
+    assert_eq!(give_back(&changed(&plant, 16, 8), &book, 8, [47, 7]), Err(Refusal::PlantLabel));
+    assert_eq!(give_back(&changed(&plant, 70, 4), &book, 8, [47, 7]), Err(Refusal::PlantArrow));
+    assert_eq!(give_back(&changed(&plant, 2, 4), &book, 8, [47, 7]), Err(Refusal::BookHeader)); // another move
+    assert_eq!(give_back(&plant, &changed(&book, 6, 1), 8, [47, 7]), Err(Refusal::BookRow));
+    assert_eq!(give_back(&plant, &book, 8, [47, 7]), Err(Refusal::Mask));
+    assert_eq!(give_back(&plant, &book, 1, [47, 8]), Err(Refusal::Buffer));
+    assert_eq!(give_back(&plant, &book, 1, [48, 7]), Err(Refusal::Buffer));
+    assert_eq!(give_back(&plant, &book, 1, [48, 8]), Ok(Returned { length: 48, gained: 3 }));
+    assert_eq!(gained, [0, 0, 1, 0, 2, 0, 9, 9]);
+    assert_eq!(make_into(&plant, 7, &mut book), Ok(48));
+    assert_eq!(out, book);
 }

@@ -75,8 +75,11 @@ type Look = fn(&[u8], &[u8], u32, &mut [u8]) -> Cost;
 /// What a list of withdrawals answers and writes: from the call, the book buffer and the drop buffer.
 type Sheet = fn(&Lines, &mut [u8], &mut [u8]) -> Answer;
 
+/// What a return answers and writes: from the call, the book buffer and the drop buffer.
+type Repair = fn(&Returned, &mut [u8], &mut [u8]) -> Answer;
+
 /// A planner with a goal and a rule of its own for the good moves, a consult of its own, a drop list of which it makes
-/// what it likes, and a preview and a list of withdrawals of its own; all else is right.
+/// what it likes, and a preview, a list of withdrawals and a return of its own; all else is right.
 struct Own {
     name: &'static str,
     aim: Aim,
@@ -85,6 +88,7 @@ struct Own {
     list: fn(&mut [[u8; 2]]),
     look: Look,
     sheet: Sheet,
+    repair: Repair,
 }
 
 impl Calls for Own {
@@ -107,6 +111,10 @@ impl Calls for Own {
 
     fn withdraw_list(&self, plant: &[u8], book: &[u8], masks: &[u8], out: &mut [u8], drops: &mut [u8]) -> Answer {
         (self.sheet)(&Lines { plant, book, masks }, out, drops)
+    }
+
+    fn return_moves(&self, plant: &[u8], book: &[u8], mask: u32, out: &mut [u8], gained: &mut [u8]) -> Answer {
+        (self.repair)(&Returned { plant, book, mask }, out, gained)
     }
 
     fn preview(&self, plant: &[u8], book: &[u8], mask: u32, drops: &mut [u8]) -> Cost {
@@ -201,7 +209,7 @@ fn show(book: &BookView, state: usize, goal: usize) -> Advice {
     shown(book, state, goal, goal)
 }
 
-/// The rules of document 02, and drop lists, previews and lists of withdrawals as they are.
+/// The rules of document 02, and drop lists, previews, lists of withdrawals and returns as they are.
 const RIGHT: Own = Own {
     name: "right",
     aim: |_, book, state, sought| arrive(book, state, sought),
@@ -210,6 +218,7 @@ const RIGHT: Own = Own {
     list: |_| {},
     look: |plant, book, mask, drops| Fast.preview(plant, book, mask, drops),
     sheet: |lines, out, drops| lines.right(out, drops),
+    repair: |returned, out, gained| returned.right(out, gained),
 };
 
 const fn wrong_rule(name: &'static str, rule: Rule) -> Own {
@@ -234,6 +243,10 @@ const fn wrong_look(name: &'static str, look: Look) -> Own {
 
 const fn wrong_sheet(name: &'static str, sheet: Sheet) -> Own {
     Own { name, sheet, ..RIGHT }
+}
+
+const fn wrong_repair(name: &'static str, repair: Repair) -> Own {
+    Own { name, repair, ..RIGHT }
 }
 
 /// What a list of withdrawals is handed to read.
@@ -279,7 +292,7 @@ impl Lines<'_> {
 
     /// Whether a buffer is too short for the book handed in or for its states.
     fn is_short(&self, out: &[u8], drops: &[u8]) -> bool {
-        out.len() < self.book.len() || drops.len() < 2 * usize::from(number(self.book, 0))
+        is_short(self.book, out, drops)
     }
 
     /// The drop lists of the single withdrawals in turn, of an accepted list.
@@ -295,9 +308,109 @@ impl Lines<'_> {
     }
 }
 
+/// Whether a buffer is too short for a book or for its states.
+fn is_short(book: &[u8], out: &[u8], list: &[u8]) -> bool {
+    out.len() < book.len() || list.len() < 2 * usize::from(number(book, 0))
+}
+
 /// The moves in service in a book.
 fn in_service(book: &[u8]) -> u32 {
-    BookView::read(book, None).expect("a book").mask
+    u32::from(number(book, 8)) | u32::from(number(book, 10)) << 16
+}
+
+/// The bytes of a state's row.
+fn row_of(book: &[u8], state: u16) -> std::ops::Range<usize> {
+    let length = 4 * usize::from(number(book, 4));
+    let start = 16 + length * usize::from(state);
+    start..start + length
+}
+
+/// Whether a state's row is not lost.
+fn is_kept(book: &[u8], state: u16) -> bool {
+    number(&book[row_of(book, state)], 0) != u16::MAX
+}
+
+/// Sets K of a book to the number of its rows that are not lost.
+fn count_kept(book: &mut [u8]) {
+    let kept = (0..number(book, 0)).filter(|&state| is_kept(book, state)).count() as u16;
+    book[6..8].copy_from_slice(&kept.to_le_bytes());
+}
+
+/// What a return is handed to read.
+struct Returned<'a> {
+    plant: &'a [u8],
+    book: &'a [u8],
+    mask: u32,
+}
+
+impl Returned<'_> {
+    /// The right answer, and what is written with it.
+    fn right(&self, out: &mut [u8], gained: &mut [u8]) -> Answer {
+        Fast.return_moves(self.plant, self.book, self.mask, out, gained)
+    }
+
+    /// The number of the right answer, for which nothing is solved; nothing is written.
+    fn number(&self, out: &[u8], gained: &[u8]) -> u32 {
+        AllLost.return_moves(self.plant, self.book, self.mask, &mut out.to_vec(), &mut gained.to_vec()).number
+    }
+
+    /// The moves in service before, and those returned.
+    fn served(&self) -> u32 {
+        in_service(self.book) | self.mask
+    }
+
+    /// The right answer, but if it is accepted, with other moves in service than those before and those returned.
+    fn serving(&self, out: &mut [u8], gained: &mut [u8], serve: fn(u32, u32) -> u32) -> Answer {
+        match self.number(out, gained) {
+            0 => self.making(serve(in_service(self.book), self.mask), out, gained),
+            _ => self.right(out, gained),
+        }
+    }
+
+    /// Makes the book for these moves, and lists the states that it keeps and the one handed in does not.
+    fn making(&self, mask: u32, out: &mut [u8], gained: &mut [u8]) -> Answer {
+        let made = Fast.make(self.plant, mask, out);
+        self.listing(made, out, gained, |before, after| !before && after)
+    }
+
+    /// The right answer, but if it is accepted, with another list: of the states that are picked by whether they were
+    /// kept before and are kept now.
+    fn listed(&self, out: &mut [u8], gained: &mut [u8], pick: fn(bool, bool) -> bool) -> Answer {
+        match self.right(out, &mut gained.to_vec()) {
+            right @ Answer { number: 0, .. } => self.listing(right, out, gained, pick),
+            refused => refused,
+        }
+    }
+
+    /// Lists such states of an accepted answer.
+    fn listing(&self, answer: Answer, out: &[u8], list: &mut [u8], pick: fn(bool, bool) -> bool) -> Answer {
+        let picked = |state: &u16| pick(is_kept(self.book, *state), is_kept(out, *state));
+        let states: Vec<u8> = (0..number(self.book, 0)).filter(picked).flat_map(u16::to_le_bytes).collect();
+        list[..states.len()].copy_from_slice(&states);
+        Answer { drops: states.len() as u32 / 2, ..answer }
+    }
+
+    /// The right answer, but if it is accepted, with the old rows of the states that are picked by whether they were
+    /// kept before and are kept now; K is that of the rows.
+    fn patched(&self, out: &mut [u8], gained: &mut [u8], pick: fn(bool, bool) -> bool) -> Answer {
+        let right = self.right(out, gained);
+        if right.number == 0 {
+            for state in 0..number(self.book, 0) {
+                if pick(is_kept(self.book, state), is_kept(out, state)) {
+                    let row = row_of(self.book, state);
+                    out[row.clone()].copy_from_slice(&self.book[row]);
+                }
+            }
+            count_kept(out);
+        }
+        right
+    }
+
+    /// Hands the old book back, and lists nothing.
+    fn unchanged(&self, out: &mut [u8]) -> Answer {
+        out[..self.book.len()].copy_from_slice(self.book);
+        Answer { number: 0, length: self.book.len() as u32, drops: 0 }
+    }
 }
 
 /// Planners with one fault each in the rule or in the drop list.
@@ -512,6 +625,147 @@ const WRONG_SHEETS: [Own; 18] = [
 ];
 const WRONG_IN_TURN: usize = 7;
 
+/// Planners with one fault each in the return alone. Beside themselves, the first `WRONG_MAKINGS` show by their making,
+/// and the others by what their withdrawal refuses, or by what they write though they refuse.
+const WRONG_REPAIRS: [Own; 31] = [
+    wrong_repair("within the old kept states", |returned, out, gained| match returned.number(out, gained) {
+        0 => {
+            let mut book = returned.book.to_vec();
+            book[8..12].copy_from_slice(&returned.served().to_le_bytes());
+            let answer = Fast.withdraw(returned.plant, &book, 0, out, &mut gained.to_vec());
+            Answer { drops: 0, ..answer }
+        }
+        _ => returned.right(out, gained),
+    }),
+    wrong_repair("a withdrawal", |returned, out, gained| {
+        Fast.withdraw(returned.plant, returned.book, returned.mask, out, gained)
+    }),
+    wrong_repair("exclusive or of old and returned moves", |returned, out, gained| {
+        returned.serving(out, gained, |old, mask| old ^ mask)
+    }),
+    wrong_repair("the returned moves alone", |returned, out, gained| returned.serving(out, gained, |_, mask| mask)),
+    wrong_repair("the old moves again", |returned, out, gained| returned.serving(out, gained, |old, _| old)),
+    wrong_repair("and in place of or", |returned, out, gained| returned.serving(out, gained, |old, mask| old & mask)),
+    wrong_repair("and not in place of or", |returned, out, gained| {
+        returned.serving(out, gained, |old, mask| old & !mask)
+    }),
+    wrong_repair("the lowest returned move alone", |returned, out, gained| {
+        returned.serving(out, gained, |old, mask| old | mask & mask.wrapping_neg())
+    }),
+    wrong_repair("the low half of the returned moves", |returned, out, gained| {
+        returned.serving(out, gained, |old, mask| old | mask & 0xffff)
+    }),
+    wrong_repair("the old book for no move", |returned, out, gained| match returned.number(out, gained) {
+        0 if returned.mask == 0 => returned.unchanged(out),
+        _ => returned.right(out, gained),
+    }),
+    wrong_repair("the old book for no new move", |returned, out, gained| match returned.number(out, gained) {
+        0 if returned.mask & !in_service(returned.book) == 0 => returned.unchanged(out),
+        _ => returned.right(out, gained),
+    }),
+    wrong_repair("the old book with another mask", |returned, out, gained| match returned.number(out, gained) {
+        0 => {
+            let answer = returned.unchanged(out);
+            out[8..12].copy_from_slice(&returned.served().to_le_bytes());
+            answer
+        }
+        _ => returned.right(out, gained),
+    }),
+    wrong_repair("old rows kept, new states added", |returned, out, gained| {
+        returned.patched(out, gained, |before, after| before && after)
+    }),
+    wrong_repair("kept states stay kept", |returned, out, gained| {
+        returned.patched(out, gained, |before, after| before && !after)
+    }),
+    wrong_repair("every kept state listed as gained", |returned, out, gained| {
+        returned.listed(out, gained, |_, after| after)
+    }),
+    wrong_repair("every state listed that is lost before", |returned, out, gained| {
+        returned.listed(out, gained, |before, _| !before)
+    }),
+    wrong_repair("states kept before or after but not both", |returned, out, gained| {
+        returned.listed(out, gained, |before, after| before != after)
+    }),
+    wrong_repair("dropped states for gained ones", |returned, out, gained| {
+        returned.listed(out, gained, |before, after| before && !after)
+    }),
+    wrong_repair("nothing listed as gained", |returned, out, gained| returned.listed(out, gained, |_, _| false)),
+    wrong_repair("gained states written, and not counted", |returned, out, gained| Answer {
+        drops: 0,
+        ..returned.right(out, gained)
+    }),
+    wrong_repair("gained states by falling number", |returned, out, gained| {
+        let right = returned.right(out, gained);
+        let list = &mut gained[..2 * right.drops as usize];
+        let falling: Vec<u8> = list.chunks_exact(2).rev().flatten().copied().collect();
+        list.copy_from_slice(&falling);
+        right
+    }),
+    wrong_repair("gained states high byte first", |returned, out, gained| {
+        let right = returned.right(out, gained);
+        gained[..2 * right.drops as usize].chunks_exact_mut(2).for_each(|number| number.reverse());
+        right
+    }),
+    wrong_repair("an end mark past the gained states", |returned, out, gained| {
+        let right = returned.right(out, gained);
+        if right.number == 0 {
+            gained[2 * right.drops as usize..].iter_mut().take(2).for_each(|byte| *byte = 0xff);
+        }
+        right
+    }),
+    wrong_repair("the length in a refusal", |returned, out, gained| match returned.right(out, gained) {
+        Answer { number: 7, .. } => Answer { length: returned.book.len() as u32, ..Answer::refused(7) },
+        right => right,
+    }),
+    wrong_repair("a move in service refused", |returned, out, gained| match returned.number(out, gained) {
+        0 | 7 if returned.mask & in_service(returned.book) != 0 => Answer::refused(6),
+        _ => returned.right(out, gained),
+    }),
+    wrong_repair("the returned mask not checked", |returned, out, gained| match returned.number(out, gained) {
+        6 if !is_short(returned.book, out, gained) => {
+            let every_move = u32::MAX >> (32 - number(returned.book, 2));
+            Returned { mask: returned.mask & every_move, ..*returned }.right(out, gained)
+        }
+        _ => returned.right(out, gained),
+    }),
+    wrong_repair("7 before 6 in a return", |returned, out, gained| match returned.number(out, gained) {
+        6 if is_short(returned.book, out, gained) => Answer::refused(7),
+        _ => returned.right(out, gained),
+    }),
+    wrong_repair("one byte more asked for", |returned, out, gained| match returned.number(out, gained) {
+        0 if out.len() == returned.book.len() => Answer::refused(7),
+        _ => returned.right(out, gained),
+    }),
+    wrong_repair("room for the kept states alone", |returned, out, gained| match returned.number(out, gained) {
+        7 if out.len() >= returned.book.len() => {
+            let (mut book, mut list) = (out.to_vec(), vec![0; LONGEST_LIST]);
+            let right = returned.right(&mut book, &mut list);
+            if gained.len() < 2 * usize::from(number(&book, 6)) {
+                return Answer::refused(7);
+            }
+            out.copy_from_slice(&book);
+            returned.listing(right, out, gained, |before, after| !before && after)
+        }
+        _ => returned.right(out, gained),
+    }),
+    wrong_repair("K not checked", |returned, out, gained| match returned.number(out, gained) {
+        5 => {
+            let mut book = returned.book.to_vec();
+            count_kept(&mut book);
+            Returned { book: &book, ..*returned }.right(out, gained)
+        }
+        _ => returned.right(out, gained),
+    }),
+    wrong_repair("the book written though the list is refused", |returned, out, gained| {
+        let right = returned.right(out, gained);
+        if right.number == 7 && out.len() >= returned.book.len() {
+            Fast.make(returned.plant, returned.served(), out);
+        }
+        right
+    }),
+];
+const WRONG_MAKINGS: usize = 24;
+
 /// All random rounds, for some calls of each kind.
 fn compare(planner: &dyn Calls, second: &dyn Calls) {
     let mut comparison = Comparison::new(planner, second);
@@ -555,12 +809,17 @@ fn wrong_planners_are_found() {
     let own = WRONG.iter().chain(&WRONG_LOOKS).chain(&WRONG_AIMS).map(|planner| planner as &dyn Calls);
     check_found(solvers.into_iter().chain(own).map(beside_fast), ", plant ");
     check_found(WRONG_SHEETS.iter().map(|planner| beside_fast(planner)), "in withdraw list, masks ");
+    check_found(WRONG_REPAIRS.iter().map(|planner| beside_fast(planner)), "in return, mask ");
     // A wrong preview shows by the planner's own withdrawal, and a wrong goal by its own consult.
     check_found(WRONG_LOOKS.iter().chain(&WRONG_AIMS[..UNSTEADY_AIMS]).map(beside_itself), ", plant ");
     // A wrong list shows by the planner's own withdrawals, and a wrong refusal of it by that of all its moves at once.
     let (in_turn, others) = WRONG_SHEETS.split_at(WRONG_IN_TURN);
     check_found(in_turn.iter().map(beside_itself), " alone, with its single withdrawals in turn second: withdraw list");
     check_found(others.iter().map(beside_itself), "withdraw list, masks ");
+    // A wrong return shows by the planner's own making, and a wrong refusal of it by its own withdrawal.
+    let (makings, others) = WRONG_REPAIRS.split_at(WRONG_MAKINGS);
+    check_found(makings.iter().map(beside_itself), " alone, with its making second: return, mask ");
+    check_found(others.iter().map(beside_itself), "return, mask ");
     // Consult takes no plant.
     check_found(WRONG_ASKS.iter().map(|planner| beside_fast(planner)), "in consult, state ");
     check_found(WRONG_ASKS[..UNSTEADY_ASKS].iter().map(beside_itself), ", book ");

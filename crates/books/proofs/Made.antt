@@ -12,8 +12,8 @@ use borrow.Author.Tests.{eq-eqb, ne-eqb, leb-true}
 use Rattle.statements.specs.Sets.{numbers, filter, over}
 use Rattle.statements.specs.Plants.{Plant, plantOf, plantFault, allowed}
 use Rattle.statements.specs.Kept.{keptWithin}
-use Rattle.statements.specs.Books.{bytesOf, bookBytes, bookLong, bookStates, bookMask, isLost, bookKept, lessMask, bookWithin}
-use Rattle.statements.specs.Books.{madeBook, keptBefore, withdrawnBook, returnedBook}
+use Rattle.statements.specs.Books.{bytesOf, bookBytes, bookLong, bookStates, bookMask, isLost, bookKept, lessMask}
+use Rattle.statements.specs.Books.{bookWithin, madeBook, keptBefore, withdrawnBook, returnedBook}
 use Rattle.statements.specs.Calls.{bookRoom, dropRoom, makeFault, withdrawFault, returnFault}
 use Rattle.sets.proofs.Members.{filter-same, filter-filter, filter-length, length-numbers}
 use Rattle.sets.proofs.Over.{over-back}

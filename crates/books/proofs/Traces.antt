@@ -14,8 +14,8 @@ use Rattle.demands.proofs.Demand3.{demand-3}
 use Rattle.books.specs.declared.Answer.{Answer}
 use Rattle.books.specs.Says.{Writes}
 use Rattle.books.specs.Traces.{Step, made, withdrew, withdrewList, returned, answerIn, bufferIn, Keeps}
-use Rattle.books.specs.Traces.{nextBook, lastBook, Trace, numbersIn, callOf, callsOf, Begun, bookAfter, serviceAfter}
-use Rattle.books.specs.Traces.{Demand-3-traced}
+use Rattle.books.specs.Traces.{nextBook, lastBook, Trace, numbersIn, callOf, callsOf, Begun, bookAfter}
+use Rattle.books.specs.Traces.{serviceAfter, Demand-3-traced}
 use Rattle.sets.proofs.Over.{over-back}
 use Rattle.books.proofs.Made.{made-read}
 

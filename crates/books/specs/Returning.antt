@@ -23,8 +23,8 @@ pub record Returning-traced : Type 0 where
   -- the list of an accepted return: the states kept in the book written and lost in the book handed in
   pub listed : {s b o o′ d d′ : List ℕ} {back : ℕ} {r : Answer} → ReturnSays s b back o o′ d d′ r →
       r .number ≡ 0 → Lists s (take (r .length) o′) b d d′ (r .drops)
-  -- moves in service withdrawn from the standing book after any list of calls, and returned to the book that this gives:
-  -- the book is as it was, and the states listed are those that the withdrawal dropped
+  -- moves in service withdrawn from the standing book after any list of calls, and returned to the book that this
+  -- gives: the book is as it was, and the states listed are those that the withdrawal dropped
   pub undone : {s o o′ d d′ q q′ e e′ : List ℕ} {gone : ℕ} {w r : Answer} (t : Begun s) →
       WithdrawSays s (bookAfter s t) gone o o′ d d′ w → w .number ≡ 0 →
       bitOr (serviceAfter s t) gone ≡ serviceAfter s t →

@@ -1,5 +1,5 @@
-// The public calls: make a control book, withdraw moves from one, once or by a list, or see what that would cost, return
-// moves to it, consult it for a move or for all good ones, hand back a state's row.
+// The public calls: make a control book, withdraw moves from one, once or by a list, or see what that would cost,
+// return moves to it, consult it for a move or for all good ones, hand back a state's row.
 mod consult;
 mod make;
 mod start;

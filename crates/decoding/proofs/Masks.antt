@@ -1,5 +1,5 @@
--- The bits of a mask less another: those of the one that are not in the other. Two masks joined, and the masks of a list
--- joined: all that one of them names. Assumes nothing.
+-- The bits of a mask less another: those of the one that are not in the other. Two masks joined, and the masks of a
+-- list joined: all that one of them names. Assumes nothing.
 use mathlib.Core.Path.{_≡_, refl, sym, ap, _∙_}
 use mathlib.Core.Logic.{_↔_, _⊎_, inl, inr}
 use mathlib.Core.Bool.{Bool, true, false, _&&_, _||_, not, true≢false}

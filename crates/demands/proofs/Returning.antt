@@ -1,5 +1,6 @@
--- Moves returned: the book is that of a making for more moves, so that it keeps what a book of a making with fewer keeps;
--- the list is a drop list with the books in the other order; what a withdrawal took away comes back. Assumes nothing.
+-- Moves returned: the book is that of a making for more moves, so that it keeps what a book of a making with fewer
+-- keeps; the list is a drop list with the books in the other order; what a withdrawal took away comes back. Assumes
+-- nothing.
 use mathlib.Core.Path.{_≡_, refl, sym, ap, _∙_}
 use mathlib.Core.Logic.{_↔_, inl}
 use mathlib.Core.Bool.{true, false}

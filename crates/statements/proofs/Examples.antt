@@ -20,7 +20,7 @@ use Rattle.statements.specs.Calls.{standingAfter, standing, answers, tol
 use Rattle.statements.specs.Marked.{plantP, plantStill, plantLoop, plantMay, plantEnd, bookP, lostRow}
 use Rattle.statements.specs.Marked.{bookM1, bookM2, bookM9, bookBoth, bookBoth9, bookFour, bookThree, allLost}
 use Rattle.statements.specs.Marked.{Marked, fifteen, Marked-arrivals, Marked-moves, Marked-previews}
-use Rattle.statements.specs.Marked.{Marked-lists, Marked-returns}
+use Rattle.statements.specs.Marked.{Marked-lists, outAndBack, Marked-returns}
 
 pub marked : Marked
 unfolding bit numbers every first joined iterate isIn allIn filter word words arrowsFrom plantOf headOk labelsOk rank arrowsOk plantFault allowed inGoal endsIn ends available goesInto moveInto can grown target forced forcedAll keptRound keptWithin level waitOf nearer listedMove two bookLong entryOf rowOf headOf bookBytes bookStates bookMoves bookGoals bookCount bookMask waitAt moveAt isLost isHeld bookKept maskOk bookHeadOk rowsOk bookFault goalAfter served passes arrive lessMask bookWithin madeBook keptBefore withdrawnBook droppedStates maskFault bookRoom dropRoom roomFault makeFault alike lentFault withdrawFault numberFault consultFault rowPart answerOf writtenBy standingAfter standing answers toldOf told putBy inService bytesOf plantP plantStill plantLoop plantMay plantEnd bookP lostRow bookM1 bookM2 bookM9 allLost
@@ -104,7 +104,7 @@ marked-lists =
     }
 
 pub marked-returns : Marked-returns
-unfolding bit numbers every first joined iterate isIn allIn filter word words arrowsFrom plantOf headOk labelsOk rank arrowsOk plantFault allowed inGoal endsIn ends available goesInto moveInto can grown target forced forcedAll keptRound keptWithin level waitOf nearer listedMove two bookLong entryOf rowOf headOf bookBytes bookStates bookMoves bookGoals bookCount bookMask waitAt moveAt isLost isHeld bookKept maskOk bookHeadOk rowsOk bookFault bookWithin madeBook returnedBook gainedStates maskFault bookRoom dropRoom roomFault alike lentFault withdrawFault bytesOf plantP plantMay bookP lostRow bookM1 bookM2 bookM9 bookFour allLost
+unfolding bit numbers every first joined iterate isIn allIn filter word words arrowsFrom plantOf headOk labelsOk rank arrowsOk plantFault allowed inGoal endsIn ends available goesInto moveInto can grown target forced forcedAll keptRound keptWithin level waitOf nearer listedMove two bookLong entryOf rowOf headOf bookBytes bookStates bookMoves bookGoals bookCount bookMask waitAt moveAt isLost isHeld bookKept maskOk bookHeadOk rowsOk bookFault lessMask bookWithin madeBook keptBefore withdrawnBook returnedBook gainedStates maskFault bookRoom dropRoom roomFault alike lentFault withdrawFault answerOf writtenBy standingAfter standing answers toldOf putBy inService bytesOf plantP plantMay bookP lostRow bookM1 bookM2 bookM9 bookFour allLost outAndBack
 marked-returns =
     record {
       none = record { accepted = refl; short-book = refl; short-list = refl; book = refl; gains = refl };
@@ -117,4 +117,7 @@ marked-returns =
       lost-now = record { accepted = refl; short-book = refl; short-list = refl; book = refl; gains = refl };
       no-move = refl;
       unlike = refl;
+      numbers-are = refl;
+      in-service-are = refl;
+      stands = refl;
     }

@@ -7,7 +7,8 @@ use Rattle.statements.specs.Plants.{plantOf}
 use Rattle.statements.specs.Books.{bytesOf, bookCount, waitAt, moveAt, arrive, goodMoves, madeBook}
 use Rattle.statements.specs.Books.{withdrawnBook, withdrawnList, returnedBook, droppedStates, gainedStates}
 use Rattle.statements.specs.Calls.{makeFault, withdrawFault, withdrawListFault, returnFault, previewFault}
-use Rattle.statements.specs.Calls.{consultFault, movesFault}
+use Rattle.statements.specs.Calls.{consultFault, movesFault, Call, withdraws, returns, standing, answers}
+use Rattle.statements.specs.Calls.{inService}
 
 -- strip plant P: header, labels 3 1 5 0, then the eight arrows
 unfoldable pub plantP : List ℕ
@@ -207,6 +208,10 @@ pub record Returns (b : List ℕ) (back : ℕ) (after gained : List ℕ) : Type 
   pub book : returnedBook (plantOf plantP) b back ≡ after
   pub gains : gainedStates b after ≡ gained
 
+-- calls with buffers of just their lengths: move 0 withdrawn, a move past the last returned, moves 0 and 2 returned
+unfoldable pub outAndBack : List Call
+outAndBack = withdraws 1 48 8 ∷ returns 8 48 8 ∷ returns 5 48 8 ∷ []
+
 pub record Marked-returns : Type 0 where
   -- move 2 back in M2's book, which had lost no state, and move 0 back in M3's, which had lost them all: M1's book
   pub none : Returns bookM2 4 bookM1 []
@@ -224,3 +229,7 @@ pub record Marked-returns : Type 0 where
   -- refused: a mask with a move past the last, before it a book for another plant, both before short buffers
   pub no-move : returnFault plantP bookM1 8 47 7 ≡ 6
   pub unlike : returnFault plantMay bookM1 8 47 7 ≡ 4
+  -- in a list of calls, from M2's book on: what they answer, the moves then in service and the standing book
+  pub numbers-are : answers plantP bookM2 outAndBack ≡ 0 ∷ 6 ∷ 0 ∷ []
+  pub in-service-are : inService (plantOf plantP) 3 outAndBack ≡ 7
+  pub stands : standing plantP bookM2 outAndBack ≡ bookM1

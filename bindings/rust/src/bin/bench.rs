@@ -3,14 +3,16 @@
 //!
 //! A time is the least CPU time of several runs, in microseconds; buffers are reused and not cleared between runs.
 //! `make` is with all moves in service, `withdraw` takes the highest move out of that book, `preview` says what that
-//! costs, and `remake` makes the same book afresh. `list` takes the upper half of the moves out of the book that was
-//! made, from the highest down, by one list of 16 masks of one move each; `singles` does that by 16 withdrawals, each
-//! from the book of the one before, and `union` by one withdrawal of all these moves. `consult` is the mean over all
-//! states and goals. K is how many states the book keeps that is written last, previewed or consulted. A ratio above 1
-//! says how many times as long the other solver takes as the first column does.
+//! costs, `remake` makes the same book afresh, and `return` puts the move back in it, which gives the first book again.
+//! `list` takes the upper half of the moves out of the book that was made, from the highest down, by one list of 16
+//! masks of one move each; `singles` does that by 16 withdrawals, each from the book of the one before, and `union` by
+//! one withdrawal of all these moves. `consult` is the mean over all states and goals. K is how many states the book
+//! keeps that is written last, previewed or consulted. A ratio above 1 says how many times as long the other solver
+//! takes as the first column does.
 //!
 //! After a family's sizes stand the growth of each call from the fewest states to the most, and with the most states
-//! how many times as long a preview takes as withdraw, list as union, and singles as list.
+//! how many times as long a preview takes as withdraw, return as make, list as union, and singles as list. After all
+//! families stands how many times as long return takes as make: the geometric mean over all families and sizes.
 //!
 //! At the end stand consult and moves for the longest plant: consult in a state that serves no goal, and in one that
 //! serves all of them (`passing`); moves in that state, which has one arrow, and in the busiest state there can be; and
@@ -25,7 +27,7 @@ use planbook::second::format::{number, together};
 use planbook::second::{Fast, Plain};
 
 const SIZES: [u16; 5] = [64, 128, 256, 512, 1024];
-const CALLS: [&str; 8] = ["make", "withdraw", "preview", "remake", "list", "singles", "union", "consult"];
+const CALLS: [&str; 9] = ["make", "withdraw", "preview", "remake", "return", "list", "singles", "union", "consult"];
 const LOOKUPS: [&str; 4] = ["consult", "passing", "moves", "busiest"];
 const SEED: u64 = 1;
 
@@ -42,6 +44,7 @@ fn main() {
     let planners: Vec<&dyn Calls> = vec![&Plain, &Fast];
 
     print_heading(&planners);
+    let mut all = Vec::new();
     for family in FAMILIES {
         let mut sizes: Vec<Vec<Figures<{ CALLS.len() }>>> = Vec::new();
         for states in SIZES {
@@ -52,10 +55,12 @@ fn main() {
         }
         let most = &sizes[sizes.len() - 1];
         print_growth(family.name(), &sizes[0], most);
-        for ratio in [[2, 1], [4, 6], [5, 4]] {
+        for ratio in [[2, 1], [4, 0], [5, 7], [6, 5]] {
             print_ratio(family.name(), &CALLS, ratio, most);
         }
+        all.extend(sizes);
     }
+    print_mean_ratio([4, 0], &all);
 
     let model = plants::longest();
     let figures: Vec<_> = planners.iter().map(|planner| measure_lookups(*planner, &model)).collect();
@@ -77,7 +82,7 @@ fn measure(planner: &dyn Calls, model: &Model) -> Figures<{ CALLS.len() }> {
     let plant = model.bytes();
     let (states, goals) = (model.labels.len(), usize::from(model.goals));
     let length = 16 + 4 * states * goals;
-    let [mut book, mut out] = [(); 2].map(|()| vec![0; length]);
+    let [mut book, mut out, mut again] = [(); 3].map(|()| vec![0; length]);
     let mut drops = vec![0; 2 * states];
     let [every_move, highest] = [model.every_move(), model.highest_move()];
 
@@ -85,6 +90,7 @@ fn measure(planner: &dyn Calls, model: &Model) -> Figures<{ CALLS.len() }> {
     let withdraw = least(|| accepted(planner.withdraw(&plant, &book, highest, &mut out, &mut drops).number));
     let preview = least(|| accepted(planner.preview(&plant, &book, highest, &mut drops).number));
     let remake = least(|| accepted(planner.make(&plant, every_move & !highest, &mut out).number));
+    let back = least(|| accepted(planner.return_moves(&plant, &out, highest, &mut again, &mut drops).number));
     let consult = least(|| {
         for state in 0..states as u32 {
             for goal in 0..goals as u32 {
@@ -95,8 +101,8 @@ fn measure(planner: &dyn Calls, model: &Model) -> Figures<{ CALLS.len() }> {
     let [before, after] = [&book, &out].map(|book| number(book, 6));
     let ([list, singles, union], rest) = measure_lists(planner, model, &book);
     Figures {
-        times: [make, withdraw, preview, remake, list, singles, union, consult / (states * goals) as f64],
-        kept: [before, after, after, after, rest, rest, rest, before],
+        times: [make, withdraw, preview, remake, back, list, singles, union, consult / (states * goals) as f64],
+        kept: [before, after, after, after, number(&again, 6), rest, rest, rest, before],
     }
 }
 
@@ -213,6 +219,16 @@ fn print_growth(family: &str, fewest: &[Figures<{ CALLS.len() }>], most: &[Figur
 fn print_ratio<const N: usize>(family: &str, calls: &[&str; N], [call, to]: [usize; 2], figures: &[Figures<N>]) {
     let ratios = figures.iter().map(|figures| figures.times[call] / figures.times[to]);
     print_line(family, &format!("to {}", calls[to]), calls[call], ratios);
+}
+
+/// The geometric mean of such ratios, over the figures of all plants.
+fn print_mean_ratio([call, to]: [usize; 2], plants: &[Vec<Figures<{ CALLS.len() }>>]) {
+    let means = (0..plants[0].len()).map(|planner| {
+        let times = plants.iter().map(|figures| figures[planner].times);
+        let logarithms: f64 = times.map(|times| (times[call] / times[to]).ln()).sum();
+        (logarithms / plants.len() as f64).exp()
+    });
+    print_line("all", &format!("to {}", CALLS[to]), CALLS[call], means);
 }
 
 /// A figure for each planner that is no time.

@@ -1,21 +1,25 @@
 //! What is compared: exhaustive rounds on strip plant P, and random rounds that a seed fixes.
 
-use super::Comparison;
+use super::{in_service, Comparison};
 use crate::calls::mask_bytes;
 use crate::plants::{self, bytes_of, Model, Random, FAMILIES};
 use crate::second::format::{read_masks, together};
 use crate::sys::{Answer, LONGEST_BOOK, LONGEST_LIST};
 use lists::{any_list, masks_in_turn};
+use returns::moves_back;
 
+mod faults;
 mod lists;
+mod returns;
 
 /// A random round: some calls on inputs that come from the numbers given.
 pub type Round = fn(&mut Comparison, &mut Random);
 
 /// The random rounds, with their names.
-pub const RANDOM_ROUNDS: [(&str, Round); 8] = [
+pub const RANDOM_ROUNDS: [(&str, Round); 9] = [
     ("lists of calls", list_of_calls),
     ("lists of withdrawals", lists::lists_of_withdrawals),
+    ("returns", returns::returns),
     ("good moves", good_moves),
     ("invented books", invented_book),
     ("damaged plants", damaged_plant),
@@ -25,7 +29,7 @@ pub const RANDOM_ROUNDS: [(&str, Round); 8] = [
 ];
 
 /// The rounds that leave nothing to chance.
-pub const EXHAUSTIVE_ROUNDS: [fn(&mut Comparison); 8] = [
+pub const EXHAUSTIVE_ROUNDS: [fn(&mut Comparison); 12] = [
     single_bytes,
     other_lengths,
     every_mask,
@@ -33,6 +37,10 @@ pub const EXHAUSTIVE_ROUNDS: [fn(&mut Comparison); 8] = [
     lists::every_short_list,
     lists::every_list_length,
     lists::every_combination_of_refusals,
+    returns::every_return,
+    returns::every_round_trip,
+    returns::every_combination_of_refusals,
+    returns::longest,
     largest,
 ];
 
@@ -62,7 +70,7 @@ fn book_length(model: &Model) -> usize {
     16 + 4 * model.labels.len() * usize::from(model.goals)
 }
 
-/// How long the buffer for dropped states must be.
+/// How long the buffer for a list of states must be.
 fn list_length(model: &Model) -> usize {
     2 * model.labels.len()
 }
@@ -166,22 +174,23 @@ fn any_goal(comparison: &mut Comparison, plant: &[u8], book: &[u8], model: &Mode
     comparison.moves(plant, book, state, goal);
 }
 
-/// A list of makes, withdrawals and lists of withdrawals on one plant, refused ones among them, and a preview of each
-/// single withdrawal. The standing book is always the one made afresh for the moves in service, and whether a call is
-/// refused is told from its masks and buffers alone.
+/// A list of makes, withdrawals, lists of withdrawals and returns on one plant, refused ones among them, and a preview
+/// of each single withdrawal. The standing book is always the one made afresh for the moves in service, and whether a
+/// call is refused is told from its masks and buffers alone.
 fn list_of_calls(comparison: &mut Comparison, random: &mut Random) {
     let model = any_plant(random);
     let plant = model.bytes();
     let in_service = many_moves(&model, random);
     let (_, book) = comparison.make(&plant, in_service, book_length(&model));
-    let mut standing = Standing { model, plant, book, in_service };
+    let mut standing = Standing { model, plant, book, in_service, last: None };
     for _ in 0..random.from_to(0, 12) {
-        match random.below(6) {
+        match random.below(10) {
             0 => standing.make(comparison, random),
             1 => standing.withdraw_list(comparison, random),
+            2..=5 => standing.return_moves(comparison, random),
             _ => standing.withdraw(comparison, random),
         }
-        let Standing { model, plant, book, in_service } = &standing;
+        let Standing { model, plant, book, in_service, .. } = &standing;
         comparison.made_afresh(plant, *in_service, book);
         any_goal(comparison, plant, book, model, random);
     }
@@ -194,6 +203,15 @@ struct Standing {
     plant: Vec<u8>,
     book: Vec<u8>,
     in_service: u32,
+    /// The last call that was accepted, if it was a withdrawal, single or by a list.
+    last: Option<Withdrawal>,
+}
+
+/// A withdrawal: the moves that it took out of service, how many states it dropped, and the book before.
+struct Withdrawal {
+    moves: u32,
+    drops: u32,
+    before: Vec<u8>,
 }
 
 impl Standing {
@@ -211,7 +229,7 @@ impl Standing {
         let cost = comparison.preview(&self.plant, &self.book, mask, lengths[1]);
         let told = self.told(mask, [book_length(&self.model), lengths[1]]);
         assert_eq!(cost.number, told, "told from the preview alone");
-        self.take(withdrawn, self.told(mask, lengths), self.in_service & !mask);
+        self.take_withdrawal(withdrawn, self.told(mask, lengths), mask);
     }
 
     fn withdraw_list(&mut self, comparison: &mut Comparison, random: &mut Random) {
@@ -221,10 +239,23 @@ impl Standing {
         let masks = read_masks(&masks);
         let all = masks.as_deref().map_or(0, together);
         let told = masks.map_or_else(|refusal| refusal.number(), |_| self.told(all, lengths));
-        self.take(withdrawn, told, self.in_service & !all);
+        self.take_withdrawal(withdrawn, told, all);
     }
 
-    /// Lengths of the buffers for a withdrawal.
+    /// Often the moves come back that were just withdrawn: then the book before is back, and so are the states dropped.
+    fn return_moves(&mut self, comparison: &mut Comparison, random: &mut Random) {
+        let last = self.last.as_ref().filter(|_| random.once_in(2));
+        let mask = last.map_or_else(|| moves_back(&self.model, self.in_service, random), |last| last.moves);
+        let mask = or_too_high(mask, random);
+        let lengths = self.any_lengths(random);
+        let (answer, book) = comparison.return_moves(&self.plant, &self.book, mask, lengths);
+        if let (0, Some(last)) = (answer.number, last.filter(|last| last.moves == mask)) {
+            assert_eq!((answer.drops, &book), (last.drops, &last.before), "what was just withdrawn is back");
+        }
+        self.take((answer, book), self.told(mask, lengths), self.in_service | mask);
+    }
+
+    /// Lengths of the buffers for a withdrawal or a return.
     fn any_lengths(&self, random: &mut Random) -> [usize; 2] {
         [book_length(&self.model), list_length(&self.model)].map(|needed| any_length(needed, random))
     }
@@ -239,17 +270,27 @@ impl Standing {
         }
     }
 
+    /// A withdrawal of these moves was answered, whose number was told to be this one.
+    fn take_withdrawal(&mut self, (answer, book): (Answer, Vec<u8>), told: u32, moves: u32) {
+        let before = self.book.clone();
+        let last = Withdrawal { moves: self.in_service & moves, drops: answer.drops, before };
+        self.take((answer, book), told, self.in_service & !moves);
+        if answer.number == 0 {
+            self.last = Some(last);
+        }
+    }
+
     /// A call was answered, whose number was told to be this one: if it is accepted its book becomes the standing one,
     /// with these moves in service.
     fn take(&mut self, (answer, book): (Answer, Vec<u8>), told: u32, in_service: u32) {
         assert_eq!(answer.number, told, "told from the calls alone");
         if answer.number == 0 {
-            (self.book, self.in_service) = (book, in_service);
+            (self.book, self.in_service, self.last) = (book, in_service, None);
         }
     }
 }
 
-/// Consults and good moves in books that were made and withdrawn from for the plant, in one that nobody made, and in
+/// Consults and good moves in books that make, withdraw and return wrote for the plant, in one that nobody made, and in
 /// books that were made for other plants: one with the same counts, and one with mostly others.
 fn good_moves(comparison: &mut Comparison, random: &mut Random) {
     let model = any_plant(random);
@@ -260,6 +301,9 @@ fn good_moves(comparison: &mut Comparison, random: &mut Random) {
         every_goal(comparison, &plant, &book, &model, random.below(1024));
         book = withdraw_and_preview(comparison, &plant, &book, few_moves(&model, random), lengths).1;
     }
+    let mask = moves_back(&model, in_service(&book), random);
+    let (_, book) = comparison.return_moves(&plant, &book, mask, lengths);
+    every_goal(comparison, &plant, &book, &model, random.below(1024));
     every_goal(comparison, &plant, &invent_book(&model, random), &model, random.below(1024));
     let (_, book) = comparison.make(&turned(&model).bytes(), many_moves(&model, random), lengths[0]);
     every_goal(comparison, &plant, &book, &model, random.below(1024));
@@ -309,14 +353,20 @@ fn invented_book(comparison: &mut Comparison, random: &mut Random) {
 }
 
 /// Withdrawals, each previewed, from a book that nobody made, and from what they write; lookups in them; and sometimes
-/// a list of a few withdrawals from the first book.
+/// a list of a few withdrawals from the first book, or a return to it.
 pub fn withdrawals_from_invented(comparison: &mut Comparison, model: &Model, random: &mut Random) {
     let plant = model.bytes();
     let lengths = [book_length(model), list_length(model)];
     let mut book = invent_book(model, random);
-    if random.once_in(3) {
-        let masks = masks_in_turn(random.from_to(0, 3), model, random);
-        comparison.withdraw_list(&plant, &book, &mask_bytes(&masks), lengths);
+    match random.below(6) {
+        0..=1 => {
+            let masks = masks_in_turn(random.from_to(0, 3), model, random);
+            comparison.withdraw_list(&plant, &book, &mask_bytes(&masks), lengths);
+        }
+        2 => {
+            comparison.return_moves(&plant, &book, moves_back(model, in_service(&book), random), lengths);
+        }
+        _ => {}
     }
     for _ in 0..3 {
         let mask = few_moves(model, random);
@@ -328,8 +378,8 @@ pub fn withdrawals_from_invented(comparison: &mut Comparison, model: &Model, ran
 }
 
 /// The plant made with all moves in service, and then one more withdrawn and previewed each time, from the highest
-/// down; consults and good moves in each of these books; and, unless there are very many states, the upper half of the
-/// moves withdrawn by one list.
+/// down; consults and good moves in each of these books; the highest move returned to the first of them; and, unless
+/// there are very many states, the upper half of the moves withdrawn by one list and returned at once.
 pub fn each_move_in_turn(comparison: &mut Comparison, model: &Model) {
     let plant = model.bytes();
     let lengths = [book_length(model), list_length(model)];
@@ -339,7 +389,9 @@ pub fn each_move_in_turn(comparison: &mut Comparison, model: &Model) {
         let masks: Vec<u32> = (half..model.moves).rev().map(|action| 1 << action).collect();
         let (_, rest) = comparison.withdraw_list(&plant, &book, &mask_bytes(&masks), lengths);
         comparison.made_afresh(&plant, (1 << half) - 1, &rest);
+        comparison.return_moves(&plant, &rest, together(&masks), lengths);
     }
+    comparison.there_and_back(&plant, &book, model.highest_move(), lengths);
     for action in (0..model.moves).rev() {
         every_goal(comparison, &plant, &book, model, action.into());
         book = withdraw_and_preview(comparison, &plant, &book, 1 << action, lengths).1;
@@ -365,7 +417,7 @@ fn damage(bytes: &mut Vec<u8>, random: &mut Random) {
     }
 }
 
-/// Plants with some bytes damaged, made of, withdrawn and previewed with, by lists too, and looked up with.
+/// Plants with some bytes damaged, made of, withdrawn and previewed with, by lists too, returned and looked up with.
 fn damaged_plant(comparison: &mut Comparison, random: &mut Random) {
     let model = plants::tiny(random);
     let book = invent_book(&model, random);
@@ -378,11 +430,12 @@ fn damaged_plant(comparison: &mut Comparison, random: &mut Random) {
         let lengths = [any_length(book.len(), random), list_length(&model)];
         withdraw_and_preview(comparison, &plant, &book, mask, lengths);
         comparison.withdraw_list(&plant, &book, &any_list(&model, random), lengths);
+        comparison.return_moves(&plant, &book, mask, lengths);
         any_goal(comparison, &plant, &book, &model, random);
     }
 }
 
-/// Books with some bytes damaged, withdrawn and previewed from, by lists too, and looked up in.
+/// Books with some bytes damaged, withdrawn and previewed from, by lists too, returned to and looked up in.
 fn damaged_book(comparison: &mut Comparison, random: &mut Random) {
     let model = plants::tiny(random);
     let plant = model.bytes();
@@ -394,6 +447,7 @@ fn damaged_book(comparison: &mut Comparison, random: &mut Random) {
         let lengths = [any_length(whole.len(), random), list_length(&model)];
         withdraw_and_preview(comparison, &plant, &book, mask, lengths);
         comparison.withdraw_list(&plant, &book, &any_list(&model, random), lengths);
+        comparison.return_moves(&plant, &book, mask, lengths);
         look_up(comparison, &plant, &book, &model, random);
     }
 }
@@ -417,6 +471,9 @@ fn random_header(comparison: &mut Comparison, random: &mut Random) {
     book.resize(book_length.max(16), 0xff);
     let masks = [random.bits() as u32 & 3, random.bits() as u32 & 3];
     comparison.withdraw_list(&plant, &book, &mask_bytes(&masks), [LONGEST_BOOK, LONGEST_LIST]);
+    if random.once_in(4) {
+        comparison.return_moves(&plant, &book, masks[0], [LONGEST_BOOK, LONGEST_LIST]);
+    }
     for _ in 0..2 {
         comparison.make(&plant, random.bits() as u32 & 3, LONGEST_BOOK);
         withdraw_and_preview(comparison, &plant, &book, random.bits() as u32 & 3, [LONGEST_BOOK, LONGEST_LIST]);
@@ -449,6 +506,7 @@ fn buffers(comparison: &mut Comparison, random: &mut Random) {
     }
     for lengths in [[needed - 1, listed], [needed, listed], [needed, listed - 1]] {
         comparison.withdraw_list(&plant, &book, &masks, lengths);
+        comparison.return_moves(&plant, &book, model.every_move(), lengths);
     }
 }
 
@@ -459,41 +517,50 @@ fn strip_and_book(comparison: &mut Comparison) -> (Vec<u8>, Vec<u8>) {
     (plant, book)
 }
 
+/// M9's book, which nobody made: M1's with row 1 lost.
+fn m9_book(m1_book: &[u8]) -> Vec<u8> {
+    let mut book = m1_book.to_vec();
+    book[6] = 2;
+    book[24..32].fill(0xff);
+    book
+}
+
+/// The bytes with one of them changed to every other value, byte by byte.
+fn with_one_changed(bytes: &[u8]) -> impl Iterator<Item = Vec<u8>> + '_ {
+    let others = move |at: usize| (0..=255).filter(move |&value| value != bytes[at]).map(move |value| (at, value));
+    (0..bytes.len()).flat_map(others).map(|(at, value)| {
+        let mut bytes = bytes.to_vec();
+        bytes[at] = value;
+        bytes
+    })
+}
+
 /// Every byte of P, of its book and of a list of masks changed to every other value, in every call.
 fn single_bytes(comparison: &mut Comparison) {
     let (plant, book) = strip_and_book(comparison);
+    let (_, without_move_0) = comparison.make(&plant, 6, 48);
     let masks = mask_bytes(&[2, 4]);
-    for at in 0..masks.len() {
-        for value in (0..=255).filter(|&value| value != masks[at]) {
-            let mut masks = masks.clone();
-            masks[at] = value;
-            comparison.withdraw_list(&plant, &book, &masks, [48, 8]);
+    for masks in with_one_changed(&masks) {
+        comparison.withdraw_list(&plant, &book, &masks, [48, 8]);
+    }
+    for plant in with_one_changed(&plant) {
+        comparison.make(&plant, 7, 64);
+        withdraw_and_preview(comparison, &plant, &book, 4, [64, 16]);
+        comparison.withdraw_list(&plant, &book, &masks, [64, 16]);
+        comparison.return_moves(&plant, &without_move_0, 1, [64, 16]);
+        for (state, goal) in places(&plants::strip(), 0) {
+            comparison.moves(&plant, &book, state, goal);
         }
     }
-    for at in 0..plant.len() {
-        for value in (0..=255).filter(|&value| value != plant[at]) {
-            let mut plant = plant.clone();
-            plant[at] = value;
-            comparison.make(&plant, 7, 64);
-            withdraw_and_preview(comparison, &plant, &book, 4, [64, 16]);
-            comparison.withdraw_list(&plant, &book, &masks, [64, 16]);
-            for (state, goal) in places(&plants::strip(), 0) {
+    for book in with_one_changed(&book) {
+        withdraw_and_preview(comparison, &plant, &book, 4, [48, 8]);
+        comparison.withdraw_list(&plant, &book, &masks, [48, 8]);
+        comparison.return_moves(&plant, &book, 4, [48, 8]);
+        for state in 0..5 {
+            comparison.row(&book, state);
+            for goal in 0..3 {
+                comparison.consult(&book, state, goal);
                 comparison.moves(&plant, &book, state, goal);
-            }
-        }
-    }
-    for at in 0..book.len() {
-        for value in (0..=255).filter(|&value| value != book[at]) {
-            let mut book = book.clone();
-            book[at] = value;
-            withdraw_and_preview(comparison, &plant, &book, 4, [48, 8]);
-            comparison.withdraw_list(&plant, &book, &masks, [48, 8]);
-            for state in 0..5 {
-                comparison.row(&book, state);
-                for goal in 0..3 {
-                    comparison.consult(&book, state, goal);
-                    comparison.moves(&plant, &book, state, goal);
-                }
             }
         }
     }
@@ -512,12 +579,14 @@ fn other_lengths(comparison: &mut Comparison) {
         comparison.make(&plant, 7, 48);
         withdraw_and_preview(comparison, &plant, &book, 4, [48, 8]);
         comparison.withdraw_list(&plant, &book, &mask_bytes(&[2, 4]), [48, 8]);
+        comparison.return_moves(&plant, &book, 4, [48, 8]);
         comparison.moves(&plant, &book, 0, 1);
     }
     for length in 0..book.len() + 20 {
         let book = of_length(&book, length);
         withdraw_and_preview(comparison, &plant, &book, 4, [48, 8]);
         comparison.withdraw_list(&plant, &book, &mask_bytes(&[2, 4]), [48, 8]);
+        comparison.return_moves(&plant, &book, 4, [48, 8]);
         comparison.consult(&book, 0, 1);
         comparison.moves(&plant, &book, 0, 1);
         comparison.row(&book, 0);
@@ -542,11 +611,13 @@ fn every_mask(comparison: &mut Comparison) {
 /// P with buffers of every length up to some bytes more than is needed.
 fn every_buffer(comparison: &mut Comparison) {
     let (plant, book) = strip_and_book(comparison);
+    let (_, without_move_0) = comparison.make(&plant, 6, 48);
     for length in 0..56 {
         comparison.make(&plant, 7, length);
         for list in 0..16 {
             comparison.withdraw(&plant, &book, 1, [length, list]);
             comparison.withdraw_list(&plant, &book, &mask_bytes(&[4, 1]), [length, list]);
+            comparison.return_moves(&plant, &without_move_0, 1, [length, list]);
         }
         comparison.preview(&plant, &book, 1, length);
     }
@@ -568,7 +639,8 @@ fn largest(comparison: &mut Comparison) {
         let plant = filled(states, moves, goals, arrows).bytes();
         let mask = u32::MAX >> (32 - moves.clamp(1, 32));
         let (_, book) = comparison.make(&plant, mask, 1 << 16);
-        withdraw_and_preview(comparison, &plant, &book, mask & 1, [1 << 16, 1 << 12]);
+        let (_, rest) = withdraw_and_preview(comparison, &plant, &book, mask & 1, [1 << 16, 1 << 12]);
+        comparison.return_moves(&plant, &rest, mask & 1, [1 << 16, 1 << 12]);
         let masks: Vec<u32> = (0..16).map(|action| mask & 1 << action).collect();
         comparison.withdraw_list(&plant, &book, &mask_bytes(&masks), [1 << 16, 1 << 12]);
         comparison.consult(&book, 1023, 7);

@@ -82,6 +82,10 @@ impl<S: Solve> Calls for S {
         withdraw_list::<S>(plant, book, masks, out, drops).unwrap_or_else(|refusal| Answer::refused(refusal.number()))
     }
 
+    fn return_moves(&self, plant: &[u8], book: &[u8], mask: u32, out: &mut [u8], gained: &mut [u8]) -> Answer {
+        return_moves::<S>(plant, book, mask, out, gained).unwrap_or_else(|refusal| Answer::refused(refusal.number()))
+    }
+
     fn preview(&self, plant: &[u8], book: &[u8], mask: u32, drops: &mut [u8]) -> Cost {
         preview::<S>(plant, book, mask, drops).unwrap_or_else(|refusal| Cost::refused(refusal.number()))
     }
@@ -130,6 +134,16 @@ fn withdraw_list<S: Solve>(
     start.withdraw::<S>(&format::read_masks(masks)?, out, drops)
 }
 
+fn return_moves<S: Solve>(
+    plant: &[u8],
+    book: &[u8],
+    mask: u32,
+    out: &mut [u8],
+    gained: &mut [u8],
+) -> Result<Answer, Refusal> {
+    Start::read(plant, book)?.return_moves::<S>(mask, out, gained)
+}
+
 /// Solves the plant as withdraw does, and counts the rows in place of writing them.
 fn preview<S: Solve>(plant: &[u8], book: &[u8], mask: u32, drops: &mut [u8]) -> Result<Cost, Refusal> {
     let start = Start::read(plant, book)?;
@@ -137,10 +151,10 @@ fn preview<S: Solve>(plant: &[u8], book: &[u8], mask: u32, drops: &mut [u8]) -> 
     require(drops.len() >= 2 * start.plant.states, Refusal::Buffer)?;
     let (_, table) = start.solve::<S>(&[mask]);
     let kept = table.kept_count(&start.plant) as u32;
-    Ok(Cost { number: 0, drops: start.list_dropped(&table, drops), kept })
+    Ok(Cost { number: 0, drops: list_states(start.dropped(&table), drops), kept })
 }
 
-/// What withdrawals and previews of them start from.
+/// What withdrawals, previews of them and returns start from.
 struct Start {
     plant: Plant,
     /// Whether each state is kept in the book handed in.
@@ -161,13 +175,32 @@ impl Start {
     /// Withdraws the moves of these masks, of which there is one at least, in turn, and writes the last book and the
     /// states lost in it that were kept at the start. Refuses with 6 and 7.
     fn withdraw<S: Solve>(&self, masks: &[u32], out: &mut [u8], drops: &mut [u8]) -> Result<Answer, Refusal> {
-        let plant = &self.plant;
-        let length = plant.book_length();
-        require(masks.iter().all(|&mask| plant.has_moves(mask)), Refusal::Mask)?;
-        require(out.len() >= length && drops.len() >= 2 * plant.states, Refusal::Buffer)?;
+        self.check(masks, out, drops)?;
         let (left, table) = self.solve::<S>(masks);
-        format::write_book(plant, left, &table, &mut out[..length]);
-        Ok(Answer { number: 0, length: length as u32, drops: self.list_dropped(&table, drops) })
+        Ok(Answer { drops: list_states(self.dropped(&table), drops), ..self.write(left, &table, out) })
+    }
+
+    /// Puts the moves of this mask back in service and solves the plant afresh, whichever states were kept at the
+    /// start. Writes the book and the states kept in it that were lost at the start. Refuses with 6 and 7.
+    fn return_moves<S: Solve>(&self, mask: u32, out: &mut [u8], gained: &mut [u8]) -> Result<Answer, Refusal> {
+        self.check(&[mask], out, gained)?;
+        let in_service = self.mask | mask;
+        let table = S::solve(&self.plant, in_service, &vec![true; self.plant.states]);
+        Ok(Answer { drops: list_states(self.gained(&table), gained), ..self.write(in_service, &table, out) })
+    }
+
+    /// Refuses with 6 and 7: masks, and buffers for a book and for a list of states.
+    fn check(&self, masks: &[u32], out: &[u8], list: &[u8]) -> Result<(), Refusal> {
+        let plant = &self.plant;
+        require(masks.iter().all(|&mask| plant.has_moves(mask)), Refusal::Mask)?;
+        require(out.len() >= plant.book_length() && list.len() >= 2 * plant.states, Refusal::Buffer)
+    }
+
+    /// Writes the book of a table; the answer has its length, and no state listed yet.
+    fn write(&self, mask: u32, table: &Table, out: &mut [u8]) -> Answer {
+        let length = self.plant.book_length();
+        format::write_book(&self.plant, mask, table, &mut out[..length]);
+        Answer { number: 0, length: length as u32, drops: 0 }
     }
 
     /// The moves left in service and the last table when the moves of these masks are withdrawn in turn, each time from
@@ -183,16 +216,25 @@ impl Start {
         (left, table)
     }
 
-    /// Lists the states that were kept and that the table has lost, by rising number; answers how many.
-    fn list_dropped(&self, table: &Table, drops: &mut [u8]) -> u32 {
-        let dropped = (0..self.plant.states).filter(|&state| self.kept[state] && !table.is_kept(&self.plant, state));
-        let mut count = 0;
-        for (state, place) in dropped.zip(drops.chunks_exact_mut(2)) {
-            place.copy_from_slice(&(state as u16).to_le_bytes());
-            count += 1;
-        }
-        count
+    /// The states that were kept and that the table has lost, by rising number.
+    fn dropped<'a>(&'a self, table: &'a Table) -> impl Iterator<Item = usize> + 'a {
+        (0..self.plant.states).filter(|&state| self.kept[state] && !table.is_kept(&self.plant, state))
     }
+
+    /// The states that were lost and that the table keeps, by rising number.
+    fn gained<'a>(&'a self, table: &'a Table) -> impl Iterator<Item = usize> + 'a {
+        (0..self.plant.states).filter(|&state| !self.kept[state] && table.is_kept(&self.plant, state))
+    }
+}
+
+/// Writes the numbers of these states to the start of a list; answers how many.
+fn list_states(states: impl Iterator<Item = usize>, list: &mut [u8]) -> u32 {
+    let mut count = 0;
+    for (state, place) in states.zip(list.chunks_exact_mut(2)) {
+        place.copy_from_slice(&(state as u16).to_le_bytes());
+        count += 1;
+    }
+    count
 }
 
 fn consult(book: &[u8], state: u32, goal: u32) -> Result<Advice, Refusal> {

@@ -1,6 +1,6 @@
 //! What document 01 fixes by hand: the marked examples M1 to M11, and the table of refusals with its edges; and what
-//! requests (i), (ii), (iv), (v) and (vi) of document 02 say of the good moves, of drop lists, of previews, of the
-//! goals that are passed and of lists of withdrawals, worked out by hand. Run on any planner.
+//! requests (i), (ii), (iv), (v), (vi) and (vii) of document 02 say of the good moves, of drop lists, of previews, of
+//! the goals that are passed, of lists of withdrawals and of returns, worked out by hand. Run on any planner.
 
 use planbook::calls::{mask_bytes, Calls};
 use planbook::plants::{self, bytes_of, Model};
@@ -23,7 +23,8 @@ const M1_ROWS: [u16; 16] = [0, 0, 2, 0, /**/ 1, 2, 1, 0, /**/ 1, 0, 0, 0, /**/ L
 const M9_ROWS: [u16; 16] =
     [0, 0, 2, 0, /**/ LOST, LOST, LOST, LOST, /**/ 1, 0, 0, 0, /**/ LOST, LOST, LOST, LOST];
 
-/// P's rows with move 0 alone in service: it leads round, from 0 to 1, to 2 and to 0 again.
+/// P's rows with move 0 alone in service: it leads round, from 0 to 1, to 2 and to 0 again. With move 1 beside it they
+/// are the same (M2).
 const ROUND_ROWS: [u16; 16] =
     [0, 0, 2, 0, /**/ 2, 0, 1, 0, /**/ 1, 0, 0, 0, /**/ LOST, LOST, LOST, LOST];
 
@@ -59,20 +60,48 @@ fn check_list(planner: &dyn Calls, book: &[u8], masks: &[u8], expected: &[u8], d
     check_written(expected, dropped, |out, list| planner.withdraw_list(&bytes_of(&P), book, masks, out, list));
 }
 
-/// An accepted withdrawal, in buffers that are longer than is needed.
-fn check_written(expected: &[u8], dropped: &[u16], withdraw: impl FnOnce(&mut [u8], &mut [u8]) -> Answer) {
-    let states = usize::from(u16::from_le_bytes([expected[0], expected[1]]));
-    let [mut out, mut list] = [expected.len(), 2 * states].map(|length| vec![0xa5; length + 2]);
-    let answer = withdraw(&mut out, &mut list);
-    assert_eq!(answer, Answer { number: 0, length: expected.len() as u32, drops: dropped.len() as u32 });
-    assert_eq!(out, [expected, &[0xa5; 2]].concat(), "the book, and bytes past it stay");
-    assert_eq!(list, listed(dropped, list.len()));
+/// An accepted withdrawal or return, in buffers that are longer than is needed.
+fn check_written(expected: &[u8], states: &[u16], call: impl FnOnce(&mut [u8], &mut [u8]) -> Answer) {
+    let just = just_enough(expected);
+    check_written_in(just.map(|length| length + 2), expected, states, call);
+}
+
+/// An accepted withdrawal or return, in buffers of these lengths: the book, the states that are listed, and the bytes
+/// past both as they were.
+fn check_written_in(
+    lengths: [usize; 2],
+    expected: &[u8],
+    states: &[u16],
+    call: impl FnOnce(&mut [u8], &mut [u8]) -> Answer,
+) {
+    let [mut out, mut list] = lengths.map(|length| vec![0xa5; length]);
+    let answer = call(&mut out, &mut list);
+    assert_eq!(answer, Answer { number: 0, length: expected.len() as u32, drops: states.len() as u32 });
+    assert_eq!(out, [expected, &vec![0xa5; lengths[0] - expected.len()]].concat(), "the book, and bytes past it stay");
+    assert_eq!(list, listed(states, lengths[1]));
+}
+
+/// How long the buffers must be for a book: for itself, and for a list of all its states.
+fn just_enough(book: &[u8]) -> [usize; 2] {
+    [book.len(), 2 * usize::from(u16::from_le_bytes([book[0], book[1]]))]
 }
 
 /// A drop buffer of this length that had 0xa5 in every byte: the states by rising number, and the bytes past them as
 /// they were.
-fn listed(dropped: &[u16], length: usize) -> Vec<u8> {
-    [bytes_of(dropped), vec![0xa5; length - 2 * dropped.len()]].concat()
+fn listed(states: &[u16], length: usize) -> Vec<u8> {
+    [bytes_of(states), vec![0xa5; length - 2 * states.len()]].concat()
+}
+
+/// An accepted return to a book: in buffers that are just long enough and longer, and refused if either is one byte
+/// short.
+fn check_return(planner: &dyn Calls, plant: &[u8], book: &[u8], mask: u32, expected: &[u8], gained: &[u16]) {
+    let [length, list_length] = just_enough(expected);
+    for lengths in [[length, list_length], [length + 3, list_length + 3]] {
+        check_written_in(lengths, expected, gained, |out, list| planner.return_moves(plant, book, mask, out, list));
+    }
+    for lengths in [[length - 1, list_length], [length, list_length - 1]] {
+        check_return_number(planner, plant, book, mask, lengths, 7);
+    }
 }
 
 /// An accepted preview, with a drop buffer of just 2S bytes and a longer one; and refused with one byte less.
@@ -218,20 +247,26 @@ pub fn lists(planner: &dyn Calls) {
     }
 }
 
-/// Lists of withdrawals that drop a state with each mask, by hand: 32 states in the one goal, each of which stays where
-/// it is by the move of its own number.
-pub fn lists_that_drop_with_each_mask(planner: &dyn Calls) {
+/// 32 states in the one goal, each of which stays where it is by the move of its own number.
+fn posts() -> Vec<u8> {
     let arrows = (0..32).map(|state| [state, state, state]).collect();
-    let plant = Model { moves: 32, goals: 1, labels: vec![3; 32], arrows }.bytes();
-    let book = |mask: u32| {
-        let rows = (0..32).flat_map(|state| if mask >> state & 1 != 0 { [0, state] } else { [LOST; 2] });
-        let header = [32, 32, 1, mask.count_ones() as u16, mask as u16, (mask >> 16) as u16, 16, 144];
-        bytes_of(&header.into_iter().chain(rows).collect::<Vec<u16>>())
-    };
+    Model { moves: 32, goals: 1, labels: vec![3; 32], arrows }.bytes()
+}
+
+/// The book of that plant: a state is kept exactly when its move is in service.
+fn posts_book(mask: u32) -> Vec<u8> {
+    let rows = (0..32).flat_map(|state| if mask >> state & 1 != 0 { [0, state] } else { [LOST; 2] });
+    let header = [32, 32, 1, mask.count_ones() as u16, mask as u16, (mask >> 16) as u16, 16, 144];
+    bytes_of(&header.into_iter().chain(rows).collect::<Vec<u16>>())
+}
+
+/// Lists of withdrawals that drop a state with each mask, by hand.
+pub fn lists_that_drop_with_each_mask(planner: &dyn Calls) {
+    let plant = posts();
     let check = |made: u32, masks: &[u32], left: u32, dropped: &[u16]| {
-        let withdraw =
-            |out: &mut [u8], list: &mut [u8]| planner.withdraw_list(&plant, &book(made), &mask_bytes(masks), out, list);
-        check_written(&book(left), dropped, withdraw);
+        let (book, masks) = (posts_book(made), mask_bytes(masks));
+        let withdraw = |out: &mut [u8], list: &mut [u8]| planner.withdraw_list(&plant, &book, &masks, out, list);
+        check_written(&posts_book(left), dropped, withdraw);
     };
     // The upper half, from the highest down; every other one, from the lowest up; and all, two with each mask.
     let of = |moves: [u16; 16]| moves.map(|action| 1 << action);
@@ -242,6 +277,122 @@ pub fn lists_that_drop_with_each_mask(planner: &dyn Calls) {
     check(u32::MAX, &pairs, 0, &(0..32).collect::<Vec<u16>>());
     // Moves 0 and 31, each named twice, and moves 8 and 9, which are out already, with states 8 and 9 lost.
     check(!0x300, &[1 << 31, 1 << 9, 1, 1 << 31, 1, 1 << 8], !0x8000_0301, &[0, 31]);
+}
+
+/// Returns to books of P, by hand.
+pub fn returns(planner: &dyn Calls) {
+    let check = |book: &[u8], mask, expected: &[u8], gained: &[u16]| {
+        check_return(planner, &bytes_of(&P), book, mask, expected, gained);
+    };
+    let m1 = book_of_p(3, 7, M1_ROWS);
+    let m2 = book_of_p(3, 3, ROUND_ROWS);
+    let without_move_1 = book_of_p(3, 5, M1_ROWS); // M4
+    let round = book_of_p(3, 1, ROUND_ROWS);
+    let lost = |mask| book_of_p(0, mask, [LOST; 16]);
+
+    // Move 2 comes back: state 1 has its short way to goal 0 again, and no state had been lost. Move 1 comes back,
+    // which no entry lists.
+    check(&m2, 4, &m1, &[]);
+    check(&round, 4, &without_move_1, &[]);
+    check(&without_move_1, 2, &m1, &[]);
+    check(&round, 2, &m2, &[]);
+    check(&round, 6, &m1, &[]);
+    // Move 0 comes back, without which all is lost (M3): to moves 1 and 2, to one of them, and to none.
+    check(&lost(6), 1, &m1, &[0, 1, 2]);
+    check(&lost(4), 1, &without_move_1, &[0, 1, 2]);
+    check(&lost(2), 1, &m2, &[0, 1, 2]);
+    check(&lost(0), 1, &round, &[0, 1, 2]);
+    check(&lost(0), 7, &m1, &[0, 1, 2]);
+    // Others come back, and it does not.
+    check(&lost(2), 4, &lost(6), &[]);
+    check(&lost(0), 6, &lost(6), &[]);
+
+    // Moves that are in service already, and no move at all.
+    for mask in 0..8 {
+        check(&m1, mask, &m1, &[]);
+    }
+    check(&round, 1, &round, &[]);
+    check(&without_move_1, 3, &m1, &[]);
+    check(&lost(6), 7, &m1, &[0, 1, 2]);
+    check(&m2, 0, &m2, &[]);
+    check(&lost(6), 6, &lost(6), &[]);
+    check(&lost(0), 0, &lost(0), &[]);
+}
+
+/// Returns to books of P that nobody made, by hand: the moves in service count for the new book, and the kept states
+/// for the list alone.
+pub fn returns_to_invented_books(planner: &dyn Calls) {
+    let check = |book: &[u8], mask, expected: &[u8], gained: &[u16]| {
+        check_return(planner, &bytes_of(&P), book, mask, expected, gained);
+    };
+    let m1 = book_of_p(3, 7, M1_ROWS);
+    let round = book_of_p(3, 1, ROUND_ROWS);
+    let lost = |mask| book_of_p(0, mask, [LOST; 16]);
+
+    // M9's book: state 1 comes back, whichever moves are named; so it is also with fewer moves in service.
+    for mask in 0..8 {
+        check(&book_of_p(2, 7, M9_ROWS), mask, &m1, &[1]);
+    }
+    check(&book_of_p(2, 1, M9_ROWS), 0, &round, &[1]);
+    check(&book_of_p(2, 1, M9_ROWS), 6, &m1, &[1]);
+    // All is lost though all moves are in service.
+    check(&lost(7), 0, &m1, &[0, 1, 2]);
+    check(&lost(1), 0, &round, &[0, 1, 2]);
+
+    // State 3, which the plant does not allow, is kept before and lost now: it is not listed. The others are if they
+    // were lost.
+    check(&book_of_p(4, 7, NOT_ALLOWED_ROWS), 0, &m1, &[]);
+    check(&book_of_p(4, 5, NOT_ALLOWED_ROWS), 2, &m1, &[]);
+    let with_state_3 = |kept: u16, rows: [u16; 12]| {
+        let rows: Vec<u16> = rows.into_iter().chain([0; 4]).collect();
+        book_of_p(kept, 7, rows.try_into().expect("16 numbers"))
+    };
+    check(&with_state_3(1, [LOST; 12]), 0, &m1, &[0, 1, 2]);
+    let state_1_too = [LOST, LOST, LOST, LOST, 1, 2, 1, 0, LOST, LOST, LOST, LOST];
+    check(&with_state_3(2, state_1_too), 1, &m1, &[0, 2]);
+
+    // Waits and moves of the old rows do not count. With move 2 alone in service all is lost, though the book keeps
+    // every state; with moves 0 and 2 state 3 alone is.
+    check(&book_of_p(3, 7, ALL_SERVED_ROWS), 0, &m1, &[]);
+    let far: [u16; 16] = std::array::from_fn(|at| if at % 2 == 0 { 1023 } else { 2 });
+    check(&book_of_p(4, 4, far), 0, &lost(4), &[]);
+    check(&book_of_p(4, 4, far), 1, &book_of_p(3, 5, M1_ROWS), &[]);
+}
+
+/// Returns by which a state comes back for each move, by hand, up to the highest of 32 moves.
+pub fn returns_that_gain_with_each_move(planner: &dyn Calls) {
+    let plant = posts();
+    let check = |made: u32, mask: u32, gained: &[u16]| {
+        check_return(planner, &plant, &posts_book(made), mask, &posts_book(made | mask), gained);
+    };
+    for state in 0..32 {
+        check(0, 1 << state, &[state]);
+        check(!(1 << state), 1 << state, &[state]);
+    }
+    check(0, u32::MAX, &(0..32).collect::<Vec<u16>>());
+    check(0xffff, 0xffff_0000, &(16..32).collect::<Vec<u16>>());
+    check(0xaaaa_aaaa, 0x5555_5555, &(0..32).step_by(2).collect::<Vec<u16>>());
+    // Moves 0, 16 and 31 come back, and moves 8 and 9 are named that never went.
+    check(!0x8001_0001, 0x8001_0301, &[0, 16, 31]);
+    check(u32::MAX, u32::MAX, &[]);
+}
+
+/// Returns to the longest plant, by hand: without move 0 all states are lost, and with it all are kept. All but the
+/// last are in every goal and go on by move 0, and the last comes to them by it.
+pub fn returns_of_the_longest(planner: &dyn Calls) {
+    let plant = plants::longest().bytes();
+    let with = |kept, mask: u32, row: &dyn Fn(u16) -> [u16; 2]| {
+        let header = [1024, 32, 8, kept, mask as u16, (mask >> 16) as u16, 16, 32_784];
+        let rows = (0..1024).flat_map(|state| [row(state); 8].concat());
+        bytes_of(&header.into_iter().chain(rows).collect::<Vec<u16>>())
+    };
+    let lost = |mask| with(0, mask, &|_| [LOST; 2]);
+    let kept = |mask| with(1024, mask, &|state| [if state == 1023 { 1 } else { 0 }, 0]);
+    let all: Vec<u16> = (0..1024).collect();
+    check_return(planner, &plant, &lost(!1), 1, &kept(u32::MAX), &all);
+    check_return(planner, &plant, &lost(0), 1, &kept(1), &all);
+    check_return(planner, &plant, &kept(1), !1, &kept(u32::MAX), &[]);
+    check_return(planner, &plant, &lost(0), !1, &lost(!1), &[]);
 }
 
 /// The longest plant, and its book with all moves in service, in which every state is kept.
@@ -261,13 +412,23 @@ pub fn previews_of_the_longest(planner: &dyn Calls) {
     check_cost(planner, &plant, &book, 2, &[], 1024);
 }
 
-/// Drop lists of a plant of 1,024 states, by hand, in buffers that are just long enough, longer, and too short by one
-/// byte; and the previews of them. Each state is in the one goal and stays there by the moves of its own: move 0, and
-/// every third state move 1 too. Without move 0 the others are dropped, without both all are, whichever goes first.
-pub fn drop_lists(planner: &dyn Calls) {
+/// A plant of 1,024 states, each of which is in the one goal and stays there by the moves of its own: move 0, and every
+/// third state move 1 too.
+fn thirds() -> Vec<u8> {
     let stays = |state: u16| (0..if state % 3 == 0 { 2 } else { 1 }).map(move |action| [state, action, state]);
     let arrows = (0..1024).flat_map(stays).collect();
-    let plant = Model { moves: 2, goals: 1, labels: vec![3; 1024], arrows }.bytes();
+    Model { moves: 2, goals: 1, labels: vec![3; 1024], arrows }.bytes()
+}
+
+/// The states of that plant, and its states that have one move alone.
+fn all_and_others() -> [Vec<u16>; 2] {
+    [(0..1024).collect(), (0..1024).filter(|state| state % 3 != 0).collect()]
+}
+
+/// Drop lists of that plant, by hand, in buffers that are just long enough, longer, and too short by one byte; and the
+/// previews of them. Without move 0 the states with one move are dropped, without both all are, whichever goes first.
+pub fn drop_lists(planner: &dyn Calls) {
+    let plant = thirds();
     let mut book = vec![0; 16 + 4 * 1024];
     assert_eq!(planner.make(&plant, 3, &mut book).number, 0);
     let check_drops = |dropped: &[u16], withdraw: &dyn Fn(&mut [u8], &mut [u8]) -> Answer| {
@@ -289,8 +450,7 @@ pub fn drop_lists(planner: &dyn Calls) {
         check_cost(planner, &plant, &book, mask, dropped, 1024 - dropped.len() as u32);
         check_masks(&[mask], dropped);
     };
-    let all: Vec<u16> = (0..1024).collect();
-    let others: Vec<u16> = (0..1024).filter(|state| state % 3 != 0).collect();
+    let [all, others] = all_and_others();
     check(0, &[]);
     check(1, &others);
     check(2, &[]);
@@ -298,6 +458,35 @@ pub fn drop_lists(planner: &dyn Calls) {
     check_masks(&[1, 2], &all);
     check_masks(&[2, 1], &all);
     check_masks(&[2, 0, 2], &[]);
+}
+
+/// Lists of states gained in that plant, by hand.
+pub fn gained_lists(planner: &dyn Calls) {
+    let plant = thirds();
+    // A book that keeps some of the states, at wait 0 with one move.
+    let book = |mask, action, kept: &[u16]| {
+        let row = |state| if kept.contains(&state) { [0, action] } else { [LOST; 2] };
+        let header = [1024, 2, 1, kept.len() as u16, mask, 0, 16, 4112];
+        bytes_of(&header.into_iter().chain((0..1024).flat_map(row)).collect::<Vec<u16>>())
+    };
+    let [all, others] = all_and_others();
+    let thirds: Vec<u16> = (0..1024).step_by(3).collect();
+    let [none, first, both] = [book(0, 0, &[]), book(1, 0, &all), book(3, 0, &all)];
+    let second = book(2, 1, &thirds);
+    let check = |book: &[u8], mask, expected: &[u8], gained: &[u16]| {
+        check_return(planner, &plant, book, mask, expected, gained)
+    };
+    check(&none, 0, &none, &[]);
+    check(&none, 1, &first, &all);
+    check(&none, 2, &second, &thirds);
+    check(&none, 3, &both, &all);
+    check(&first, 2, &both, &[]);
+    check(&second, 1, &both, &others);
+    check(&second, 2, &second, &[]);
+    // Books that nobody made: one that has lost states though it need not, and one that keeps states it must not.
+    check(&book(1, 0, &others), 2, &both, &thirds);
+    check(&book(2, 1, &all), 0, &second, &[]);
+    check(&book(2, 1, &others), 0, &second, &thirds);
 }
 
 /// The good moves for each state and goal in turn, as masks.
@@ -490,24 +679,33 @@ fn check_make(planner: &dyn Calls, plant: &[u8], mask: u32, length: usize, numbe
 }
 
 fn check_withdraw(planner: &dyn Calls, plant: &[u8], book: &[u8], mask: u32, lengths: [usize; 2], number: u32) {
-    let [mut out, mut list] = lengths.map(|length| vec![0xa5; length]);
-    let answer = planner.withdraw(plant, book, mask, &mut out, &mut list);
-    assert_eq!(answer.number, number, "withdraw from {book:?}, plant {plant:?}");
-    check_untouched(answer, [&out, &list]);
+    let what = || format!("withdraw from {book:?}, plant {plant:?}");
+    check_number(lengths, number, &what, |out, list| planner.withdraw(plant, book, mask, out, list));
 }
 
 fn check_withdraw_list(planner: &dyn Calls, plant: &[u8], book: &[u8], masks: &[u8], lengths: [usize; 2], number: u32) {
-    let [mut out, mut list] = lengths.map(|length| vec![0xa5; length]);
-    let answer = planner.withdraw_list(plant, book, masks, &mut out, &mut list);
-    assert_eq!(answer.number, number, "withdraw the list {masks:?} from {book:?}, plant {plant:?}");
-    check_untouched(answer, [&out, &list]);
+    let what = || format!("withdraw the list {masks:?} from {book:?}, plant {plant:?}");
+    check_number(lengths, number, &what, |out, list| planner.withdraw_list(plant, book, masks, out, list));
 }
 
-/// If a withdrawal is refused it answers nothing but the number, and its buffers still have 0xa5 in every byte.
-fn check_untouched(answer: Answer, buffers: [&[u8]; 2]) {
-    if answer.number != 0 {
-        assert_eq!(answer, Answer::refused(answer.number));
-        assert!(buffers.concat().iter().all(|&byte| byte == 0xa5), "a refusal writes nothing");
+fn check_return_number(planner: &dyn Calls, plant: &[u8], book: &[u8], mask: u32, lengths: [usize; 2], number: u32) {
+    let what = || format!("return to {book:?}, plant {plant:?}");
+    check_number(lengths, number, &what, |out, list| planner.return_moves(plant, book, mask, out, list));
+}
+
+/// A withdrawal or a return with buffers of these lengths: the number, and nothing counted or written if refused.
+fn check_number(
+    lengths: [usize; 2],
+    number: u32,
+    what: &dyn Fn() -> String,
+    call: impl FnOnce(&mut [u8], &mut [u8]) -> Answer,
+) {
+    let [mut out, mut list] = lengths.map(|length| vec![0xa5; length]);
+    let answer = call(&mut out, &mut list);
+    assert_eq!(answer.number, number, "{}", what());
+    if number != 0 {
+        assert_eq!(answer, Answer::refused(number), "{}", what());
+        assert!(out.iter().chain(&list).all(|&byte| byte == 0xa5), "a refusal writes nothing: {}", what());
     }
 }
 
@@ -581,6 +779,7 @@ fn check_plant(planner: &dyn Calls, plant: &[u8], number: u32) {
         let book = bytes_of(&m1_numbers());
         check_withdraw(planner, plant, &book, 0, [48, 8], number);
         check_withdraw_list(planner, plant, &book, &[], [48, 8], number);
+        check_return_number(planner, plant, &book, 0, [48, 8], number);
         check_preview(planner, plant, &book, 0, 8, number);
         check_moves(planner, plant, &book, 0, 0, number);
     }
@@ -591,6 +790,7 @@ fn check_book(planner: &dyn Calls, book: &[u8], number: u32) {
     let plant = bytes_of(&P);
     check_withdraw(planner, &plant, book, 4, [48, 8], number);
     check_withdraw_list(planner, &plant, book, &mask_bytes(&[2, 4]), [48, 8], number);
+    check_return_number(planner, &plant, book, 4, [48, 8], number);
     check_preview(planner, &plant, book, 4, 8, number);
     check_moves(planner, &plant, book, 3, 1, number);
 }
@@ -704,6 +904,7 @@ fn masks_and_buffers(planner: &dyn Calls) {
     for (mask, number) in [(7, 0), (8, 6), (15, 6), (1 << 31, 6), (0, 0)] {
         check_make(planner, &plant, mask, 48, number);
         check_withdraw(planner, &plant, &book, mask, [48, 8], number);
+        check_return_number(planner, &plant, &book, mask, [48, 8], number);
         check_preview(planner, &plant, &book, mask, 8, number);
     }
     check_make(planner, &bare(1, 32, 1), u32::MAX, 20, 0);
@@ -711,15 +912,18 @@ fn masks_and_buffers(planner: &dyn Calls) {
     for (moves, number) in [(32, 0), (31, 6)] {
         let lost = bytes_of(&[1, moves, 1, 0, 0, 0, 16, 20, LOST, LOST]);
         check_preview(planner, &bare(1, moves, 1), &lost, u32::MAX, 2, number);
+        check_return_number(planner, &bare(1, moves, 1), &lost, u32::MAX, [20, 2], number);
     }
 
     // 7: the buffers.
     for (length, number) in [(48, 0), (47, 7), (0, 7), (49, 0)] {
         check_make(planner, &plant, 7, length, number);
         check_withdraw(planner, &plant, &book, 0, [length, 8], number);
+        check_return_number(planner, &plant, &book, 0, [length, 8], number);
     }
     for (length, number) in [(8, 0), (7, 7), (0, 7), (9, 0)] {
         check_withdraw(planner, &plant, &book, 0, [48, length], number);
+        check_return_number(planner, &plant, &book, 0, [48, length], number);
         check_preview(planner, &plant, &book, 0, length, number);
     }
 }
@@ -784,6 +988,9 @@ fn the_first_that_applies(planner: &dyn Calls) {
     // With a mask that is bad, in lists that are whole, cut and too long, and buffers that are too short.
     let check = |plant: &[u8], book: &[u8], number, length_number| {
         check_withdraw(planner, plant, book, 8, [47, 8], number);
+        for lengths in [[47, 8], [48, 7], [47, 7]] {
+            check_return_number(planner, plant, book, 8, lengths, number);
+        }
         check_preview(planner, plant, book, 8, 7, number);
         check_withdraw_list(planner, plant, book, &mask_bytes(&[4, 8]), [47, 7], number);
         for masks in [&[0xff; 3][..], &[0xff; 5], &[0xff; 65], &[0xff; 68], &[0; 68]] {

@@ -1,39 +1,53 @@
-//! What requests (i), (ii), (iv), (v) and (vi) of document 02 promise of the books that make or withdraw wrote for a
-//! plant: which goal is arrived at and which the good moves are, that following the book meets all goals, by its own
-//! moves or by any pick from the good ones, what a drop list says of the books before and after, that previews come
-//! true, and what a list of withdrawals comes to. Run on any planner; nothing is compared with another.
+//! What requests (i), (ii) and (iv) to (vii) of document 02 promise of the books that make, withdraw or return wrote
+//! for a plant: which goal is arrived at and which the good moves are, that following the book meets all goals, by its
+//! own moves or by any pick from the good ones, what a drop list says of the books before and after, that previews come
+//! true, what a list of withdrawals comes to, that returns undo withdrawals, and what any list of calls comes to.
+//! Run on any planner; nothing is compared with another.
 
 use planbook::calls::{mask_bytes, Calls};
 use planbook::plants::{self, Model, Random, FAMILIES};
 use planbook::second::format::{in_mask, number, together, BookView, Plant};
-use planbook::sys::Advice;
+use planbook::sys::{Advice, Answer};
 
 /// Every move of a mask.
 fn moves_of(mask: u32) -> Vec<u16> {
     (0..32).filter(|&action| in_mask(mask, action)).collect()
 }
 
+/// How long a plant's books are, and the list of all its states.
+fn lengths(model: &Model) -> [usize; 2] {
+    let states = model.labels.len();
+    [16 + 4 * states * usize::from(model.goals), 2 * states]
+}
+
 /// The book of a plant with the moves of a mask in service.
 fn make(planner: &dyn Calls, model: &Model, mask: u32) -> Vec<u8> {
-    let mut book = vec![0; 16 + 4 * model.labels.len() * usize::from(model.goals)];
+    let mut book = vec![0; lengths(model)[0]];
     assert_eq!(planner.make(&model.bytes(), mask, &mut book).number, 0);
     book
 }
 
+/// The book that an accepted call writes, and the states that it lists.
+fn written(model: &Model, call: impl FnOnce(&mut [u8], &mut [u8]) -> Answer) -> (Vec<u8>, Vec<u16>) {
+    let [mut out, mut list] = lengths(model).map(|length| vec![0; length]);
+    let answer = call(&mut out, &mut list);
+    assert_eq!(answer.number, 0);
+    (out, listed(&list, answer.drops))
+}
+
 /// The book without the moves of a mask, and the drop list.
 fn withdraw_listed(planner: &dyn Calls, model: &Model, book: &[u8], mask: u32) -> (Vec<u8>, Vec<u16>) {
-    let (mut out, mut drops) = (book.to_vec(), vec![0; 2 * model.labels.len()]);
-    let answer = planner.withdraw(&model.bytes(), book, mask, &mut out, &mut drops);
-    assert_eq!(answer.number, 0);
-    (out, listed(&drops, answer.drops))
+    written(model, |out, list| planner.withdraw(&model.bytes(), book, mask, out, list))
 }
 
 /// The book without the moves of a list of masks, and the drop list.
 fn withdraw_list(planner: &dyn Calls, model: &Model, book: &[u8], masks: &[u32]) -> (Vec<u8>, Vec<u16>) {
-    let (mut out, mut drops) = (book.to_vec(), vec![0; 2 * model.labels.len()]);
-    let answer = planner.withdraw_list(&model.bytes(), book, &mask_bytes(masks), &mut out, &mut drops);
-    assert_eq!(answer.number, 0);
-    (out, listed(&drops, answer.drops))
+    written(model, |out, list| planner.withdraw_list(&model.bytes(), book, &mask_bytes(masks), out, list))
+}
+
+/// The book with the moves of a mask back in service, and the states gained.
+fn return_moves(planner: &dyn Calls, model: &Model, book: &[u8], mask: u32) -> (Vec<u8>, Vec<u16>) {
+    written(model, |out, list| planner.return_moves(&model.bytes(), book, mask, out, list))
 }
 
 /// The states that a withdrawal of the moves of a mask would drop, and how many it would keep.
@@ -44,9 +58,9 @@ fn preview(planner: &dyn Calls, model: &Model, book: &[u8], mask: u32) -> (Vec<u
     (listed(&drops, cost.drops), cost.kept as usize)
 }
 
-/// The first `count` numbers of a drop list.
-fn listed(drops: &[u8], count: u32) -> Vec<u16> {
-    (0..count as usize).map(|at| number(drops, 2 * at)).collect()
+/// The first `count` numbers of a list of states.
+fn listed(list: &[u8], count: u32) -> Vec<u16> {
+    (0..count as usize).map(|at| number(list, 2 * at)).collect()
 }
 
 /// The book without the moves of a mask.
@@ -59,13 +73,17 @@ fn read(book: &[u8]) -> BookView<'_> {
     BookView::read(book, None).expect("a book that was written")
 }
 
-/// A plant of any size, and a book that is made with all moves or some, or withdrawn from once or twice.
+/// A plant of any size, and a book of it that make wrote for all moves or some, or withdraw or return from that.
 fn any_book(planner: &dyn Calls, random: &mut Random) -> (Model, Vec<u8>) {
     let model = if random.once_in(2) { plants::tiny(random) } else { plants::any_size(random) };
     let some = if random.once_in(4) { random.bits() as u32 } else { u32::MAX };
     let mut book = make(planner, &model, model.every_move() & some);
     for _ in 0..random.below(3) {
-        book = withdraw(planner, &model, &book, 1 << random.below(model.moves.into()));
+        let mask = 1 << random.below(model.moves.into());
+        book = match random.once_in(4) {
+            true => return_moves(planner, &model, &book, mask).0,
+            false => withdraw(planner, &model, &book, mask),
+        };
     }
     (model, book)
 }
@@ -176,6 +194,168 @@ pub fn lists_come_to_the_withdrawals_in_turn(planner: &dyn Calls) {
         planner.name()
     );
     assert!(none > 500 && one > 100 && more > 50 && lengths.iter().all(|&many| many > 30));
+}
+
+/// Returns undo withdrawals: when the moves come back that a withdrawal took out of service, at once or in two parts,
+/// with or without others that never went, the first book is back, and the states gained are those dropped.
+pub fn returns_undo_withdrawals(planner: &dyn Calls) {
+    // How many withdrawals drop no state, and in how many others one part of the moves gains states, and both do.
+    let mut gains = [0; 3];
+    for seed in 0..2_000 {
+        let random = &mut Random::new(seed);
+        let (model, first) = any_book(planner, random);
+        let [withdrawn, part, others] = [(); 3].map(|()| random.bits() as u32 & model.every_move());
+        let (rest, dropped) = withdraw_listed(planner, &model, &first, withdrawn);
+        let in_service = read(&first).mask;
+        let taken = in_service & withdrawn;
+        for mask in [taken, taken | others & in_service] {
+            let back = return_moves(planner, &model, &rest, mask);
+            assert_eq!(back, (first.clone(), dropped.clone()), "{mask:#x} of {withdrawn:#x} back, seed {seed}");
+        }
+        let (between, one) = return_moves(planner, &model, &rest, taken & part);
+        let (last, two) = return_moves(planner, &model, &between, taken & !part);
+        let gaining = [&one, &two].into_iter().filter(|list| !list.is_empty()).count();
+        let mut gained = [one, two].concat();
+        gained.sort_unstable();
+        assert_eq!((last, gained), (first, dropped), "{taken:#x} back in two parts, seed {seed}");
+        gains[gaining] += 1;
+    }
+    let [none, one, both] = gains;
+    println!("{}: {none} returns gain no state, {one} by one of two parts, {both} by both", planner.name());
+    assert!(none > 500 && one > 200 && both > 100);
+}
+
+/// The book with some rows set to lost and some to kept, with the lowest move in service, and with K as it is then: one
+/// that nobody made.
+fn tampered(book: &[u8], random: &mut Random) -> Vec<u8> {
+    let mut book = book.to_vec();
+    let lowest = moves_of(read(&book).mask).first().map(|&action| [0, 0, action as u8, 0]);
+    let row_length = 4 * usize::from(number(&book, 4));
+    for row in book[16..].chunks_exact_mut(row_length) {
+        match (random.below(4), lowest) {
+            (0, _) => row.fill(0xff),
+            (1, Some(entry)) => row.chunks_exact_mut(4).for_each(|place| place.copy_from_slice(&entry)),
+            _ => {}
+        }
+    }
+    let kept = book[16..].chunks_exact(row_length).filter(|row| row[..2] != [0xff; 2]).count() as u16;
+    book[6..8].copy_from_slice(&kept.to_le_bytes());
+    book
+}
+
+/// A return comes to the book that is made afresh for the moves in service together with those returned, whichever
+/// states the book handed in keeps. Its list strictly rises, and a state is in it exactly when its row is lost in the
+/// book before and kept in the one after.
+pub fn returns_come_to_a_making(planner: &dyn Calls) {
+    // How many lists have no state, one, and more, and how many reach past state 255; and how many books have lost a
+    // state that the one handed in keeps.
+    let (mut sizes, mut high, mut losing) = ([0; 3], 0, 0);
+    for seed in 0..2_000 {
+        let random = &mut Random::new(seed);
+        let (model, written) = any_book(planner, random);
+        let mask = random.bits() as u32 & model.every_move();
+        for book in [tampered(&written, random), written] {
+            let (after, list) = return_moves(planner, &model, &book, mask);
+            let afresh = make(planner, &model, read(&book).mask | mask);
+            assert_eq!(after, afresh, "made afresh with {mask:#x}, seed {seed}");
+            assert_eq!(list, dropped_states(&after, &book), "lost before and kept after, {mask:#x}, seed {seed}");
+            sizes[list.len().min(2)] += 1;
+            high += u64::from(list.len() > 1 && list.last() > Some(&255));
+            losing += u64::from(!dropped_states(&book, &after).is_empty());
+        }
+    }
+    let [none, one, more] = sizes;
+    println!(
+        "{}: {none} empty lists of states gained, {one} of one, {more} of more, {high} past 255; {losing} from books \
+         that keep a state which is then lost",
+        planner.name()
+    );
+    assert!(none > 1_000 && one > 100 && more > 500 && high > 50 && losing > 500);
+}
+
+/// A planner's standing book on one plant, and the moves in service as they are told from the calls alone.
+struct Standing<'a> {
+    planner: &'a dyn Calls,
+    model: &'a Model,
+    book: Vec<u8>,
+    in_service: u32,
+}
+
+impl Standing<'_> {
+    /// Makes any call, with any mask and buffers; answers its number, which is told from these alone. A refused call
+    /// writes nothing, and leaves the standing book.
+    fn call(&mut self, random: &mut Random) -> u32 {
+        let any_length = |needed: usize, random: &mut Random| if random.once_in(12) { needed - 1 } else { needed + 2 };
+        let [mut out, mut list] = lengths(self.model).map(|needed| vec![0xa5; any_length(needed, random)]);
+        let [a, b] = [(); 2].map(|()| self.any_mask(random));
+        let (planner, plant, book) = (self.planner, self.model.bytes(), &self.book);
+        let kind = random.below(7);
+        let (answer, named, then) = match kind {
+            0 => (planner.make(&plant, a, &mut out), a, a),
+            1 => {
+                let masks = mask_bytes(&[a, b]);
+                let answer = planner.withdraw_list(&plant, book, &masks, &mut out, &mut list);
+                (answer, a | b, self.in_service & !(a | b))
+            }
+            2..=3 => (planner.withdraw(&plant, book, a, &mut out, &mut list), a, self.in_service & !a),
+            _ => (planner.return_moves(&plant, book, a, &mut out, &mut list), a, self.in_service | a),
+        };
+        let [length, list_length] = lengths(self.model);
+        let short = out.len() < length || (kind != 0 && list.len() < list_length);
+        let told = if named & !self.model.every_move() != 0 { 6 } else { 7 * u32::from(short) };
+        assert_eq!(answer.number, told, "told from the call alone");
+        if told == 0 {
+            out.truncate(answer.length as usize);
+            (self.book, self.in_service) = (out, then);
+        } else {
+            assert_eq!(answer, Answer::refused(told));
+            assert!(out.iter().chain(&list).all(|&byte| byte == 0xa5), "a refused call writes nothing");
+        }
+        told
+    }
+
+    /// A few moves, or some; once in a while one that the plant does not have.
+    fn any_mask(&self, random: &mut Random) -> u32 {
+        let some = random.bits() as u32 & self.model.every_move();
+        match random.below(12) {
+            0 => some | 1 << random.below(32),
+            1..=3 => some,
+            _ => 1 << random.below(self.model.moves.into()),
+        }
+    }
+}
+
+/// Demand 3: after any list of makes, withdrawals, lists of withdrawals and returns, refused ones among them, the
+/// standing book is the one made afresh for the moves in service; and the books after two lists on one plant are equal
+/// exactly when the same moves are in service.
+pub fn lists_of_calls_come_to_a_making(planner: &dyn Calls) {
+    // How many calls are accepted, refused with 6 and with 7; how many pairs of books differ and are equal.
+    let (mut calls, mut pairs) = ([0; 3], [0; 2]);
+    for seed in 0..1_500 {
+        let random = &mut Random::new(seed);
+        let model = if random.once_in(4) { plants::any_size(random) } else { plants::tiny(random) };
+        let [one, two] = [(); 2].map(|()| {
+            let in_service = random.bits() as u32 & model.every_move();
+            let book = make(planner, &model, in_service);
+            let mut standing = Standing { planner, model: &model, book, in_service };
+            for _ in 0..random.from_to(0, 12) {
+                calls[standing.call(random).saturating_sub(5) as usize] += 1;
+            }
+            let afresh = make(planner, &model, standing.in_service);
+            assert_eq!(standing.book, afresh, "after a list of calls, seed {seed}");
+            standing
+        });
+        let equal = one.in_service == two.in_service;
+        assert_eq!(one.book == two.book, equal, "the same moves in service, seed {seed}");
+        pairs[usize::from(equal)] += 1;
+    }
+    let ([accepted, bad_masks, short], [differ, equal]) = (calls, pairs);
+    println!(
+        "{}: {accepted} calls are accepted, {bad_masks} refused with 6, {short} with 7; of the books after two lists \
+         {equal} pairs are equal and {differ} differ",
+        planner.name()
+    );
+    assert!(accepted > 10_000 && bad_masks > 300 && short > 500 && equal > 200 && differ > 500);
 }
 
 /// A plant and a mask with a move and move 0 in each other's place.

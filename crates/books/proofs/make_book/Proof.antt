@@ -1,5 +1,5 @@
--- `books::make_book` meets its contract: a refused call changes nothing, and an accepted one writes the book of a making.
--- Assumes nothing.
+-- `books::make_book` meets its contract: a refused call changes nothing, and an accepted one writes the book of a
+-- making. Assumes nothing.
 use denote.Ref.{now}
 use mathlib.Core.Path.{_≡_, sym, _∙_}
 use lib.ListN.{length}

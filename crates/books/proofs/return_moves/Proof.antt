@@ -88,8 +88,8 @@ returns-2 c =
     let d = c .before .before in
     let k = d .before .before .before .before .before in
     let m = k .before .before in (
-      return-done _ _ _ (fine (m .before)) (m .mask .ensures) (k .book .ensures .0) (k .book .ensures .1) (d .dropped .ensures .0)
-          (d .dropped .ensures .1),
+      return-done _ _ _ (fine (m .before)) (m .mask .ensures) (k .book .ensures .0) (k .book .ensures .1)
+          (d .dropped .ensures .0) (d .dropped .ensures .1),
       demands,
     )
 

@@ -1,0 +1,81 @@
+//! Calls with faults put in, one of them or many at once: the first refusal that applies is returned.
+
+use super::{book_length, invent_book, list_length, masks_in_turn, strip_and_book, Comparison};
+use crate::calls::mask_bytes;
+use crate::plants::{self, Random};
+use crate::sys::Answer;
+
+/// What a list of withdrawals or a return takes: a plant with an arrow and fewer than 32 moves, a book for it, a mask
+/// at least, and the lengths of the buffers.
+#[derive(Clone)]
+pub struct Call {
+    pub plant: Vec<u8>,
+    pub book: Vec<u8>,
+    pub masks: Vec<u8>,
+    pub lengths: [usize; 2],
+}
+
+/// A kind of call: what it is refused with, in the order of the checks, and how it is compared.
+pub struct Kind {
+    pub refusals: &'static [u32],
+    pub compare: fn(&mut Comparison, &Call) -> Answer,
+}
+
+impl Kind {
+    /// Some calls on tiny plants, with books that nobody made and lists of so many masks, and with some faults put in.
+    pub fn some_faults(&self, comparison: &mut Comparison, most_masks: usize, random: &mut Random) {
+        for _ in 0..4 {
+            let call = Call::any(random.from_to(1, most_masks), random);
+            let faults = random.bits() as u8 & random.bits() as u8;
+            self.check(comparison, call, faults, random.below(16));
+        }
+    }
+
+    /// P with all faults put in that there can be together, none and each by itself among them.
+    pub fn every_combination(&self, comparison: &mut Comparison, masks: &[u32]) {
+        let (plant, book) = strip_and_book(comparison);
+        let call = Call { plant, book, masks: mask_bytes(masks), lengths: [48, 8] };
+        for faults in 0..=u8::MAX >> (8 - self.refusals.len()) {
+            for place in 0..6 {
+                self.check(comparison, call.clone(), faults, place);
+            }
+        }
+    }
+
+    /// Compares a call with faults put in, bit i for the i-th refusal: the first that applies is returned.
+    fn check(&self, comparison: &mut Comparison, mut call: Call, faults: u8, place: usize) {
+        let refusals = || (0..).zip(self.refusals).filter(|(bit, _)| faults >> bit & 1 != 0).map(|(_, &number)| number);
+        for number in refusals() {
+            call.spoil(number, place);
+        }
+        let answer = (self.compare)(comparison, &call);
+        assert_eq!(answer.number, refusals().next().unwrap_or(0), "the first that applies of {faults:#010b}");
+    }
+}
+
+impl Call {
+    /// A call on a tiny plant, with a book that nobody made and so many masks.
+    fn any(masks: usize, random: &mut Random) -> Call {
+        let mut model = plants::tiny(random);
+        model.arrows.push([0, 0, 0]); // it may have had none
+        let book = invent_book(&model, random);
+        let masks = mask_bytes(&masks_in_turn(masks, &model, random));
+        Call { plant: model.bytes(), book, masks, lengths: [book_length(&model), list_length(&model)] }
+    }
+
+    /// Puts in what is refused with this number; `place` says where, or how, if there is a choice.
+    fn spoil(&mut self, refusal: u32, place: usize) {
+        let (masks, last_arrow) = (self.masks.len() / 4, self.plant.len() - 6);
+        match refusal {
+            1 => self.plant[14] = 1,                                  // the last number of the header
+            2 => self.plant[17] |= 0x80,                              // bit 15 of the first label
+            3 => self.plant[last_arrow + 1 + 2 * (place % 3)] = 0xff, // the high byte of from, move or to
+            4 => self.book[12] = 15,                                  // where the rows begin
+            5 => self.book[6] ^= 1,                                   // K
+            9 if place % 2 == 0 => self.masks.resize(68, 0),
+            9 => self.masks.extend(vec![0xff; 1 + place % 3]),
+            6 => self.masks[4 * (place % masks) + 3] |= 0x80,
+            _ => self.lengths[place % 2] -= 1,
+        }
+    }
+}
