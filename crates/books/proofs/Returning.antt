@@ -2,12 +2,14 @@
 -- withdrawal that it undoes. Assumes nothing.
 use mathlib.Core.Path.{_≡_, sym, ap, ap₂, _∙_}
 use mathlib.Core.List.{List}
-use Prim.Native.Nat.{ℕ}
+use Prim.Native.Nat.{ℕ, _+_}
 use lib.ListN.{length, take}
 use lib.Bits.{bitOr}
 use Rattle.statements.specs.Plants.{words, plantOf}
-use Rattle.statements.specs.Books.{bookMask, madeBook, withdrawnBook, returnedBook, gainedStates, droppedStates}
+use Rattle.statements.specs.Books.{bookCount, bookMask, madeBook, withdrawnBook, returnedBook, gainedStates}
+use Rattle.statements.specs.Books.{droppedStates}
 use Rattle.statements.specs.Calls.{makeFault, withdrawFault}
+use Rattle.decoding.proofs.Faults.{withdraw-make}
 use Rattle.demands.proofs.Returning.{returning}
 use Rattle.books.specs.declared.Answer.{Answer}
 use Rattle.books.specs.Says.{MakeSays, WithdrawSays, ReturnSays}
@@ -53,15 +55,21 @@ module _ {s b o o′ d d′ q q′ e e′ : List ℕ} {gone mask : ℕ} {w r : A
       ∙ undone .1
       ∙ sym (list-read _ _ _ _ (drops-are (withdrew .writes) zw) (list-is (withdrew .writes) zw))
 
--- a withdrawal of moves in service is accepted only where a make with the moves in service is
-service-fine : {s o o′ d d′ : List ℕ} {gone : ℕ} {w : Answer} (t : Begun s)
-    → WithdrawSays s (bookAfter s t) gone o o′ d d′ w → w .number ≡ 0
-    → bitOr (serviceAfter s t) gone ≡ serviceAfter s t → makeFault s (serviceAfter s t) (length o) ≡ 0
-service-fine {s} {o} {d = d} {gone = gone} t says z all =
-    let fine = returning .afresh s (bookAfter s t) gone (length o) (length d) (no-fault (says .writes) z) .0 in
-    let both : bitOr (bookMask (bookAfter s t)) gone ≡ serviceAfter s t =
-    ap (λ m. bitOr m gone) (demand-3-traced .right s t .is-book .mask-is) ∙ all in
-    rw both at fine
+-- a return to a book of a making
+gained-adds-up : {s b o o′ d d′ : List ℕ} {back : ℕ} {r : Answer} (mask : ℕ) → b ≡ madeBook (plantOf s) mask
+    → makeFault s mask (length o) ≡ 0 → ReturnSays s b back o o′ d d′ r → r .number ≡ 0
+    → bookCount b + r .drops ≡ bookCount (take (r .length) o′)
+gained-adds-up {s} {b} {o} {o′} {d} {back = back} mask book fine says z =
+    let w = says .writes in
+    let accepted = rw book at (no-fault w z) in
+    let sum = returning .adds-up s mask (length o) back (length o) (length d) fine accepted in
+    rw (drops-are w z, book-read w z, book) sum
+
+-- with the standing book a call is accepted only where a make with the moves in service is
+service-fine : (s : List ℕ) (t : Begun s) (gone room drops : ℕ) → withdrawFault s (bookAfter s t) gone room drops ≡ 0
+    → makeFault s (serviceAfter s t) room ≡ 0
+service-fine s t gone room drops h =
+    rw (demand-3-traced .right s t .is-book .mask-is) at (withdraw-make s (bookAfter s t) gone room drops h)
 
 pub returning-traced : Returning-traced
 returning-traced =
@@ -72,8 +80,11 @@ returning-traced =
           ∙ ap₂ (withdrawFault s b mask) (sym long) (sym drops)
           ∙ sym (w .writes .number);
       listed = lists-gained;
-      undone = λ {s} t w zw all r zr.
+      adds-up = λ {s} {o} {d = d} {back = back} t r z.
+          gained-adds-up (serviceAfter s t) (demand-3-traced .as-afresh s t)
+          (service-fine s t back (length o) (length d) (no-fault (r .writes) z)) r z;
+      undone = λ {s} {o} {d = d} {gone = gone} t w zw all r zr.
           let book = demand-3-traced .as-afresh s t in
-          let fine = service-fine t w zw all in
+          let fine = service-fine s t gone (length o) (length d) (no-fault (w .writes) zw) in
           (book-again book fine all w zw r zr, same-list book fine all w zw r zr);
     }

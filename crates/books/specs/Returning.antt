@@ -2,12 +2,12 @@
 -- contracts against each other.
 use mathlib.Core.Path.{_≡_}
 use mathlib.Core.List.{List}
-use Prim.Native.Nat.{ℕ}
+use Prim.Native.Nat.{ℕ, _+_}
 use lib.ListN.{length, take}
 use lib.Bits.{bitOr}
 use Rattle.books.specs.declared.Answer.{Answer}
 use Rattle.statements.specs.Plants.{words}
-use Rattle.statements.specs.Books.{bookMask}
+use Rattle.statements.specs.Books.{bookCount, bookMask}
 use Rattle.books.specs.Says.{MakeSays, WithdrawSays, ReturnSays, Lists}
 use Rattle.books.specs.Traces.{Begun, bookAfter, serviceAfter}
 
@@ -23,6 +23,10 @@ pub record Returning-traced : Type 0 where
   -- the list of an accepted return: the states kept in the book written and lost in the book handed in
   pub listed : {s b o o′ d d′ : List ℕ} {back : ℕ} {r : Answer} → ReturnSays s b back o o′ d d′ r →
       r .number ≡ 0 → Lists s (take (r .length) o′) b d d′ (r .drops)
+  -- to the standing book after any list of calls: the states that it keeps and those listed are as many as are kept now
+  pub adds-up : {s o o′ d d′ : List ℕ} {back : ℕ} {r : Answer} (t : Begun s) →
+      ReturnSays s (bookAfter s t) back o o′ d d′ r → r .number ≡ 0 →
+      bookCount (bookAfter s t) + r .drops ≡ bookCount (take (r .length) o′)
   -- moves in service withdrawn from the standing book after any list of calls, and returned to the book that this
   -- gives: the book is as it was, and the states listed are those that the withdrawal dropped
   pub undone : {s o o′ d d′ q q′ e e′ : List ℕ} {gone : ℕ} {w r : Answer} (t : Begun s) →

@@ -221,6 +221,14 @@ withdraw-ok s b gone room drops h =
       drops-ok = rooms .1;
     }
 
+-- it is accepted only where a make with the book's own moves is
+pub withdraw-make : (s b : List ℕ) (gone room drops : ℕ) → withdrawFault s b gone room drops ≡ 0
+    → makeFault s (bookMask b) room ≡ 0
+unfolding makeFault maskFault
+withdraw-make s b gone room drops h =
+    let ok = withdraw-ok s b gone room drops h in
+    rw (ok .lent .plant, ok .lent .mask-ok, ok .room-ok)
+
 -- to return moves is accepted only where a make with them and the book's own is
 pub return-make : (s b : List ℕ) (back room gained : ℕ) → returnFault s b back room gained ≡ 0
     → makeFault s (bitOr (bookMask b) back) room ≡ 0
