@@ -106,8 +106,9 @@ planbook_answer planbook_withdraw_list(const uint8_t *plant, size_t plant_len, c
  * Puts the moves of a mask back in service and writes the new book to out: that of a make with the moves of the book
  * handed in and those returned. Which states that book keeps has no part in it. The states kept now and not before are
  * written to gained by rising number, each as a two-byte number, the low byte first; the answer's drops counts them. A
- * state kept before and lost now, as there may be if no call wrote the book handed in, is not listed. To return a move
- * that is in service has no effect. Refused as withdraw is; gained needs 2S bytes, as drops does. Refusals 1 to 7.
+ * state kept before and lost now is not listed; there is none if the book handed in came of a make for this plant and
+ * any calls after it. To return a move that is in service has no effect. Refused as withdraw is; gained needs 2S bytes,
+ * as drops does. Refusals 1 to 7.
  */
 planbook_answer planbook_return(const uint8_t *plant, size_t plant_len, const uint8_t *book, size_t book_len,
                                 uint32_t mask, uint8_t *out, size_t out_len, uint8_t *gained, size_t gained_len);
