@@ -8,17 +8,17 @@ use native.Mathlib.Omega.{arith}
 use lib.ListN.{length, take}
 use lib.Seq.{length-take-le}
 use lib.Bits.{bitAnd, bitOr}
-use borrow.Author.Tests.{eq-eqb, ne-eqb, leb-true}
+use borrow.Author.Tests.{ne-eqb}
 use Rattle.statements.specs.Sets.{numbers, filter, over}
 use Rattle.statements.specs.Plants.{Plant, plantOf, plantFault, allowed}
-use Rattle.statements.specs.Kept.{keptWithin}
 use Rattle.statements.specs.Books.{bytesOf, bookBytes, bookLong, bookStates, bookMask, isLost, bookKept, lessMask}
 use Rattle.statements.specs.Books.{bookWithin, madeBook, keptBefore, withdrawnBook, returnedBook}
-use Rattle.statements.specs.Calls.{bookRoom, dropRoom, makeFault, withdrawFault, returnFault}
-use Rattle.sets.proofs.Members.{filter-same, filter-filter, filter-length, length-numbers}
+use Rattle.statements.specs.Calls.{bookRoom, makeFault, withdrawFault, returnFault}
+use Rattle.sets.proofs.Members.{filter-same, filter-filter, filter-length}
 use Rattle.sets.proofs.Over.{over-back}
 use Rattle.decoding.proofs.Faults.{withdraw-ok}
-use Rattle.decoding.proofs.Header.{book-length}
+use Rattle.decoding.proofs.Header.{within-length, withdrawn-length}
+use Rattle.decoding.proofs.Sizes.{book-fits, drops-fit}
 use Rattle.demands.proofs.Returning.{gained-dropped, returning}
 use Rattle.arrays.specs.Lists.{among}
 use Rattle.arrays.proofs.Ordered.{filter-rising}
@@ -26,30 +26,15 @@ use Rattle.arrays.proofs.Sieves.{over-done}
 use Rattle.writing.specs.Written.{writtenLong, writtenBook, droppedCount, writtenDrops}
 use Rattle.writing.proofs.Solved.{can-write, written}
 use Rattle.writing.proofs.Drops.{room-listed}
-use Rattle.books.specs.declared.Answer.{Answer}
-use Rattle.books.specs.Says.{MakeSays, Writes, WithdrawSays, ReturnSays}
+use Rattle.promises.specs.declared.Answer.{Answer}
+use Rattle.promises.specs.Says.{MakeSays, Writes, WithdrawSays, ReturnSays}
 use Rattle.books.proofs.Started.{kept-same}
 
-module _ (p : Plant) (mask : ℕ) (test : ℕ → Bool) where
-  -- a list of the states at which a test holds gives the book of that test
-  within-same : (start : List ℕ) → start ≡ filter test (numbers (p .states) 0)
-      → bookWithin p mask (among start) ≡ bookWithin p mask test
-  unfolding bookWithin
-  within-same start e = ap (bookBytes p mask) (kept-same p mask test start e)
-
-  -- the length of a book
-  pub within-length : length (bookWithin p mask test) ≡ bookLong (p .states) (p .goals)
-  unfolding bookWithin
-  within-length = book-length p mask (keptWithin p mask test)
-
--- a buffer that the checks accept has room
-book-fits : (p : Plant) (room : ℕ) → bookRoom p room ≡ true → bookLong (p .states) (p .goals) ≤ room
-unfolding bookRoom
-book-fits p room h = leb-true _ _ h
-
-pub drops-fit : (p : Plant) (room : ℕ) → dropRoom p room ≡ true → 2 * p .states ≤ room
-unfolding dropRoom
-drops-fit p room h = leb-true _ _ h
+-- a list of the states at which a test holds gives the book of that test
+within-same : (p : Plant) (mask : ℕ) (test : ℕ → Bool) (start : List ℕ)
+    → start ≡ filter test (numbers (p .states) 0) → bookWithin p mask (among start) ≡ bookWithin p mask test
+unfolding bookWithin
+within-same p mask test start e = ap (bookBytes p mask) (kept-same p mask test start e)
 
 -- a book for an accepted plant, from a list of the states at which a test holds and with room for it, is written
 within-written : (s : List ℕ) (mask : ℕ) (test : ℕ → Bool) (start o : List ℕ)
@@ -73,16 +58,6 @@ struck p list new xs old {count} {kept} began exact room number e =
     let left = over-done (filter (allowed p) (take count list)) list new kept
     (omega (arith, length-take-le count list room)) number e in
     (left .0, left .1 ∙ ap (filter (allowed p)) front)
-
--- a book keeps no more states than it has
-pub kept-few : (b : List ℕ) → length (bookKept b) ≤ bookStates b
-unfolding bookKept
-kept-few b =
-    omega (
-      arith,
-      filter-length (λ x. not (isLost b x)) (numbers (bookStates b) 0),
-      length-numbers (bookStates b) 0,
-    )
 
 -- the allowed ones of the states that a book keeps
 kept-before : (p : Plant) (b : List ℕ) → bookStates b ≡ p .states
@@ -126,20 +101,6 @@ module _ (s : List ℕ) (mask : ℕ) (o : List ℕ) where
       → long ≡ length (madeBook (plantOf s) mask) → o′ ≡ over (madeBook (plantOf s) mask) o
       → MakeSays s mask o o′ (record { number = 0; length = long; drops = 0 })
   make-done long e el eo = record { number = sym e; length-is = el; drops = refl; book = eo }
-
--- the book of an accepted make, as it is read
-pub made-read : {s o o′ : List ℕ} {mask : ℕ} {r : Answer} → MakeSays s mask o o′ r → r .number ≡ 0
-    → take (r .length) o′ ≡ madeBook (plantOf s) mask
-made-read {s} {o} {o′} {mask} {r} says z =
-    let q = eq-eqb (r .number) 0 z in
-    ap (take (r .length)) (rw q at (says .book))
-    ∙ over-back (madeBook (plantOf s) mask) o (r .length) (rw q at (says .length-is))
-
--- the length of the book of a withdrawal
-pub withdrawn-length : (p : Plant) (b : List ℕ) (gone : ℕ)
-    → length (withdrawnBook p b gone) ≡ bookLong (p .states) (p .goals)
-unfolding withdrawnBook
-withdrawn-length p b gone = within-length p (lessMask (bookMask b) gone) (keptBefore p b)
 
 -- what a call that writes a book and lists states answers when it is refused
 pub writes-refused : (n number : ℕ) (after listed o d : List ℕ) {r : Answer}

@@ -1,109 +1,14 @@
-// The public calls: make a control book, withdraw moves from one, once or by a list, or see what that would cost,
-// return moves to it, consult it for a move or for all good ones, hand back a state's row.
-mod consult;
+// The public calls that write a book: make one, withdraw moves from it, once or by a list, or see what that would cost,
+// return moves to it.
 mod make;
 mod start;
 mod withdraw;
 
+use promises::Answer;
+use promises::Cost;
 ghost use mathlib.Core.Path.{_≡_};
-ghost use mathlib.Core.Bool.{not};
-ghost use Prim.Native.Nat.{_+_};
-ghost use lib.Dec.{eqb};
-ghost use lib.ListN.{length};
-ghost use Rattle.statements.specs.Calls.{rowPart};
-ghost use Rattle.books.specs.Says.{accepted, ConsultSays, MovesSays, rowStart, MakeSays, WithdrawSays};
-ghost use Rattle.books.specs.Says.{WithdrawListSays, ReturnSays, PreviewSays};
-ghost use Rattle.books.specs.Demands.{Demands};
-
-// What consult answers. A refused call has its number, and 0 in every other field; a lost state has `lost`, and 0 in
-// the others; otherwise the move (`action`) and the wait of the goal arrived at, and that goal, to be sought from here
-// on (`seek`).
-pub struct Advice {
-    pub number: u8,
-    pub lost: bool,
-    pub action: u16,
-    pub wait: u16,
-    pub seek: u16,
-}
-
-// Takes a book, a state and the goal sought. Answers lost, or the goal arrived at, where every goal that the state
-// serves is passed from the sought one onward in turn, with its move and its wait.
-pub fn consult_book(book: &[u8], state: u32, goal: u32) -> Advice
-    ensures { λ r. ⌜ ConsultSays (now (book .entry)) state goal r ⌝ }
-    ensures demands { λ _. ⌜ Demands ⌝ }
-{
-    let fault = refusals::consult(book, state, goal);
-    if fault != 0 {
-        return Advice {
-            number: fault,
-            lost: false,
-            action: 0,
-            wait: 0,
-            seek: 0,
-        };
-    }
-    if rows::is_lost(book, state) {
-        return Advice {
-            number: 0,
-            lost: true,
-            action: 0,
-            wait: 0,
-            seek: 0,
-        };
-    }
-    consult::advise(book, state, goal)
-}
-
-// What the call for all good moves answers: the number of a refusal or 0, and the moves as a mask, bit u for move u. A
-// refused call has 0 there.
-pub struct Mask {
-    pub number: u8,
-    pub mask: u32,
-}
-
-// Takes a plant, a book, a state and the goal sought. Answers all moves that meet the rule of the entry of the goal
-// arrived at, as a mask; 0 for a lost state.
-pub fn good_moves(plant: &[u8], book: &[u8], state: u32, goal: u32) -> Mask
-    ensures { λ r. ⌜ MovesSays (now (plant .entry)) (now (book .entry)) state goal r ⌝ }
-    ensures demands { λ _. ⌜ Demands ⌝ }
-{
-    let fault = refusals::moves(plant, book, state, goal);
-    if fault != 0 {
-        return Mask {
-            number: fault,
-            mask: 0,
-        };
-    }
-    let at = consult::arrive(book, state, goal);
-    Mask {
-        number: 0,
-        mask: moves::good(plant, book, state, at),
-    }
-}
-
-// Takes a book and a state and hands back that state's row as the part of the book lent; an empty part when refused.
-pub fn state_row<'a>(book: &'a [u8], state: u32) -> &'a [u8]
-    ensures bytes { λ r. ⌜ now r ≡ rowPart (now (book .entry)) state ⌝ }
-    ensures lent { λ r. ⌜ r .ptr .0 ≡ book .entry .ptr .0 ⌝ }
-    ensures place { λ r. ⌜ r .ptr .1 ≡ book .entry .ptr .1 + rowStart (now (book .entry)) state ⌝ }
-    ensures empty { λ r. ⌜ eqb (length (now r)) 0 ≡ not (accepted (now (book .entry)) state 0) ⌝ }
-{
-    if refusals::consult(book, state, 0) != 0 {
-        return &book[..0];
-    }
-    let start = rows::entry_place(book, state, 0);
-    let end = start + 4 * (format::word::number(book, 2) as usize);
-    &book[start..end]
-}
-
-// What make, withdraw, a list of withdrawals and return answer: the number of a refusal or 0, the length of the book
-// written and the number of states listed, which a return has gained and the others have dropped. A refused call has 0
-// in both.
-pub struct Answer {
-    pub number: u8,
-    pub length: u32,
-    pub drops: u32,
-}
+ghost use Rattle.promises.specs.Says.{MakeSays, WithdrawSays, WithdrawListSays, ReturnSays, PreviewSays};
+ghost use Rattle.promises.specs.Demands.{Demands};
 
 // The answer of a call that is refused.
 fn refused(number: u8) -> Answer
@@ -201,14 +106,6 @@ pub fn return_moves(
         length: length,
         drops: count,
     }
-}
-
-// What a preview answers: the number of a refusal or 0, the number of states that the withdrawal would drop and that
-// of the states it would keep. A refused call has 0 in both.
-pub struct Cost {
-    pub number: u8,
-    pub drops: u32,
-    pub kept: u32,
 }
 
 // Takes a plant, a book, a mask of moves to withdraw and a drop buffer. Writes, by rising number, the states that the

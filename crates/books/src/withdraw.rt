@@ -1,10 +1,10 @@
 // A withdrawal that is accepted.
-use crate::Answer;
 use crate::start;
+use promises::Answer;
 ghost use mathlib.Core.Path.{_≡_};
 ghost use lib.ListN.{length};
 ghost use Rattle.statements.specs.Calls.{withdrawFault};
-ghost use Rattle.books.specs.Says.{WithdrawSays};
+ghost use Rattle.promises.specs.Says.{WithdrawSays};
 
 // Writes the book within the allowed states that the old book keeps, for its moves less those withdrawn, and the states
 // that it drops; returns the book's length and how many they are.

@@ -7,8 +7,9 @@ use native.Mathlib.Omega.{arith}
 use lib.ListN.{length}
 use Rattle.statements.specs.Sets.{pick, isIn}
 use Rattle.statements.specs.Plants.{word, Plant}
+use Rattle.statements.specs.Kept.{keptWithin}
 use Rattle.statements.specs.Books.{two, bookLong, entryOf, rowOf, headOf, bookBytes, bookStates, bookMoves, bookGoals}
-use Rattle.statements.specs.Books.{bookCount, bookMask}
+use Rattle.statements.specs.Books.{bookCount, bookMask, lessMask, bookWithin, keptBefore, withdrawnBook}
 use Rattle.sets.proofs.Joined.{joined-length}
 
 pick-length : (t : Bool) (xs ys : List ℕ) (n : ℕ) → length xs ≡ n → length ys ≡ n → length (pick t xs ys) ≡ n
@@ -55,6 +56,17 @@ module _ (p : Plant) (mask : ℕ) (kept : List ℕ) where
   pub read-total : word 7 (bookBytes p mask kept) ≡ bookLong (p .states) (p .goals)
   unfolding bookBytes headOf two word
   read-total = omega arith
+
+-- the length of the book within a set, and of that of a withdrawal
+pub within-length : (p : Plant) (mask : ℕ) (test : ℕ → Bool)
+    → length (bookWithin p mask test) ≡ bookLong (p .states) (p .goals)
+unfolding bookWithin
+within-length p mask test = book-length p mask (keptWithin p mask test)
+
+pub withdrawn-length : (p : Plant) (b : List ℕ) (gone : ℕ)
+    → length (withdrawnBook p b gone) ≡ bookLong (p .states) (p .goals)
+unfolding withdrawnBook
+withdrawn-length p b gone = within-length p (lessMask (bookMask b) gone) (keptBefore p b)
 
 -- equal books have the same moves in service
 pub same-mask : (p : Plant) (mask other : ℕ) (kept others : List ℕ)

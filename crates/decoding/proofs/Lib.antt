@@ -8,3 +8,4 @@ pub mod Bytes
 pub mod Accepted
 pub mod Unique
 pub mod Faults
+pub mod Asked

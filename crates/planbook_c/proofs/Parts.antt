@@ -9,7 +9,8 @@ use lib.ListN.{length}
 use Rattle.statements.specs.Plants.{word}
 use Rattle.statements.specs.Books.{bookLong, bookGoals}
 use Rattle.statements.specs.Calls.{consultFault}
-use Rattle.books.proofs.Consulted.{fine, no-row, no-start, start-given, length-row, row-fits}
+use Rattle.decoding.proofs.Asked.{fine}
+use Rattle.consult.proofs.Consulted.{no-row, no-start, start-given, length-row, row-fits}
 use Rattle.planbook_c.specs.Flat.{PartSays}
 
 -- refused: the number, and 0 in the other fields

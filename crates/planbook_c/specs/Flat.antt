@@ -7,10 +7,10 @@ use lib.ListN.{length}
 use Rattle.statements.specs.Sets.{pick}
 use Rattle.statements.specs.Books.{isLost, waitAt, moveAt, arrive}
 use Rattle.statements.specs.Calls.{consultFault, rowPart}
-use Rattle.books.specs.Says.{accepted, keeps, rowStart}
-use Rattle.books.specs.declared.Answer as planner
-use Rattle.books.specs.declared.Cost as planner-cost
-use Rattle.books.specs.declared.Mask as planner-mask
+use Rattle.promises.specs.Says.{accepted, keeps, rowStart}
+use Rattle.promises.specs.declared.Answer as planner
+use Rattle.promises.specs.declared.Cost as planner-cost
+use Rattle.promises.specs.declared.Mask as planner-mask
 use Rattle.planbook_c.specs.declared.Answer.{Answer}
 use Rattle.planbook_c.specs.declared.Cost.{Cost}
 use Rattle.planbook_c.specs.declared.Advice.{Advice}

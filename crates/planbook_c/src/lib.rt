@@ -2,7 +2,7 @@
 // include/planbook.h says the same in C.
 ghost use mathlib.Core.Path.{_≡_};
 ghost use Rattle.statements.specs.Sets.{pick};
-ghost use Rattle.books.specs.Says.{MakeSays, WithdrawSays, WithdrawListSays, ReturnSays, PreviewSays, MovesSays};
+ghost use Rattle.promises.specs.Says.{MakeSays, WithdrawSays, WithdrawListSays, ReturnSays, PreviewSays, MovesSays};
 ghost use Rattle.planbook_c.specs.Flat.{plain, plainCost, plainMask, AdviceSays, PartSays};
 
 // What make, withdraw, a list of withdrawals and return answer: a refusal's number or 0, the book's length, the number
@@ -50,7 +50,7 @@ pub struct Part {
 }
 
 // The planner's answer as a struct of 32-bit numbers.
-fn flat(r: books::Answer) -> Answer
+fn flat(r: promises::Answer) -> Answer
     ensures { λ f. ⌜ plain f ≡ r ⌝ }
 {
     Answer {
@@ -146,7 +146,7 @@ pub extern "C" fn planbook_preview(plant: &[u8], book: &[u8], mask: u32, drops: 
 pub extern "C" fn planbook_consult(book: &[u8], state: u32, goal: u32) -> Advice
     ensures { λ r. ⌜ AdviceSays (now (book .entry)) state goal r ⌝ }
 {
-    let r = books::consult_book(book, state, goal);
+    let r = consult::consult_book(book, state, goal);
     Advice {
         number: r.number as u32,
         lost: one(r.lost),
@@ -162,7 +162,7 @@ pub extern "C" fn planbook_consult(book: &[u8], state: u32, goal: u32) -> Advice
 pub extern "C" fn planbook_moves(plant: &[u8], book: &[u8], state: u32, goal: u32) -> Mask
     ensures { λ r. ⌜ MovesSays (now (plant .entry)) (now (book .entry)) state goal (plainMask r) ⌝ }
 {
-    let r = books::good_moves(plant, book, state, goal);
+    let r = consult::good_moves(plant, book, state, goal);
     Mask {
         number: r.number as u32,
         mask: r.mask,
@@ -174,7 +174,7 @@ pub extern "C" fn planbook_moves(plant: &[u8], book: &[u8], state: u32, goal: u3
 pub extern "C" fn planbook_row(book: &[u8], state: u32) -> Part
     ensures { λ r. ⌜ PartSays (now (book .entry)) state r ⌝ }
 {
-    let number = books::consult_book(book, state, 0).number;
+    let number = consult::consult_book(book, state, 0).number;
     if number != 0 {
         return Part {
             number: number as u32,

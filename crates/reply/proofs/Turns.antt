@@ -15,13 +15,13 @@ use Rattle.statements.specs.Books.{bookLong, maskAt, maskOk, eachOk, lessMask, 
 use Rattle.statements.specs.Calls.{maskFault, bookRoom, toldOf}
 use Rattle.sets.proofs.Tests.{and-iff, and-left}
 use Rattle.decoding.proofs.Masks.{less-ok, union-ok}
+use Rattle.decoding.proofs.Header.{within-length}
 use Rattle.decoding.proofs.Faults.{plant-ok, make-told}
 use Rattle.demands.proofs.Afresh.{in-turn-afresh}
 use Rattle.demands.proofs.InTurn.{first-mask}
 use Rattle.format.proofs.Unions.{rest-is, union-is}
-use Rattle.books.specs.declared.Answer.{Answer}
-use Rattle.books.specs.Says.{MakeSays}
-use Rattle.books.proofs.Made.{within-length}
+use Rattle.promises.specs.declared.Answer.{Answer}
+use Rattle.promises.specs.Says.{MakeSays}
 use Rattle.reply.specs.Reply.{masksOk, otherMasks, inTurn}
 use Rattle.reply.specs.Steps.{Ready, cameTo}
 

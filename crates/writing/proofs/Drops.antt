@@ -12,8 +12,9 @@ use Rattle.statements.specs.Sets.{consIf, numbers, filter, over}
 use Rattle.statements.specs.Books.{two, bytesOf, bookStates, isLost, bookKept, droppedStates}
 use Rattle.sets.proofs.Members.{filter-filter, filter-length, filter-snoc, length-numbers, numbers-more}
 use Rattle.sets.proofs.Over.{over-none, over-length}
+use Rattle.decoding.proofs.Sizes.{bytes-length}
 use Rattle.writing.specs.Written.{listable, droppedCount, writtenDrops}
-use Rattle.writing.proofs.Written.{bytes-length, bytes-more, put-more}
+use Rattle.writing.proofs.Written.{bytes-more, put-more}
 
 -- kept in one book and lost in another
 unfoldable pub isDropped : List ℕ → List ℕ → ℕ → Bool
@@ -45,10 +46,6 @@ dropped-passed : (before after : List ℕ)
     → droppedStates before after ≡ passed (isDropped before after) (bookStates before)
 unfolding droppedStates bookKept isDropped passed
 dropped-passed before after = filter-filter (isLost after) (λ x. not (isLost before x)) (numbers (bookStates before) 0)
-
--- no more than the book has states
-pub dropped-few : (before after : List ℕ) → length (droppedStates before after) ≤ bookStates before
-dropped-few before after = rw dropped-passed (passed-few (isDropped before after) (bookStates before))
 
 module _ (before after d : List ℕ) where
   -- without room for every state: 0, and the buffer stays

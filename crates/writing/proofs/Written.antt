@@ -15,12 +15,7 @@ use Rattle.solve.specs.Rows.{entryNumbers, rowNumbers}
 use Rattle.sets.proofs.Tests.{decided}
 use Rattle.sets.proofs.Joined.{joined-length, joined-same}
 use Rattle.sets.proofs.Over.{over-length, over-more, over-after}
-
--- two bytes for each number
-pub bytes-length : (xs : List ℕ) → length (bytesOf xs) ≡ 2 * length xs
-unfolding bytesOf two
-bytes-length [] = refl
-bytes-length (x ∷ xs) = omega (arith, bytes-length xs)
+use Rattle.decoding.proofs.Sizes.{bytes-length}
 
 -- the bytes of one list's numbers, then of another's
 pub bytes-append : (xs ys : List ℕ) → bytesOf (xs ++ ys) ≡ bytesOf xs ++ bytesOf ys

@@ -6,7 +6,7 @@ use lib.ListN.{length}
 use Rattle.statements.specs.Calls.{makeFault}
 use Rattle.decoding.proofs.Faults.{make-ok}
 use Rattle.books.proofs.Made.{make-refused, make-done}
-use Rattle.books.proofs.Demands.{demands}
+use Rattle.promises.proofs.Demands.{demands}
 use borrow.Author.Needs.{needs}
 use Rattle.books.proofs.make_book.Statement.{statement}
 use Rattle.books.proofs.make_book.Tie as tie

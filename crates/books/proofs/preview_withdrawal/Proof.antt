@@ -3,8 +3,8 @@
 use mathlib.Core.Path.{refl}
 use Rattle.statements.specs.Plants.{word}
 use Rattle.statements.specs.Books.{bookCount}
-use Rattle.books.proofs.Previewed.{preview-done}
-use Rattle.books.proofs.Demands.{demands}
+use Rattle.books.proofs.Previewing.{preview-done}
+use Rattle.promises.proofs.Demands.{demands}
 use borrow.Author.Needs.{needs}
 use Rattle.books.proofs.preview_withdrawal.Statement.{statement}
 use Rattle.books.proofs.preview_withdrawal.Tie as tie

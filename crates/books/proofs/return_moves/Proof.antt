@@ -10,7 +10,7 @@ use Rattle.statements.specs.Plants.{plantOf}
 use Rattle.statements.specs.Calls.{returnFault}
 use Rattle.decoding.proofs.Faults.{WithdrawOk, withdraw-ok}
 use Rattle.books.proofs.Made.{made-fits, writes-refused, return-done}
-use Rattle.books.proofs.Demands.{demands}
+use Rattle.promises.proofs.Demands.{demands}
 use borrow.Author.Needs.{needs}
 use Rattle.books.proofs.return_moves.Statement.{statement}
 use Rattle.books.proofs.return_moves.Tie as tie

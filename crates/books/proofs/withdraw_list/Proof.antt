@@ -7,8 +7,8 @@ use lib.ListN.{length}
 use Rattle.statements.specs.Calls.{withdrawFault, withdrawListFault}
 use Rattle.decoding.proofs.Faults.{list-at-once}
 use Rattle.books.proofs.Made.{writes-refused}
-use Rattle.books.proofs.InTurn.{as-list}
-use Rattle.books.proofs.Demands.{demands}
+use Rattle.promises.proofs.InTurn.{as-list}
+use Rattle.promises.proofs.Demands.{demands}
 use borrow.Author.Needs.{needs}
 use Rattle.books.proofs.withdraw_list.Statement.{statement}
 use Rattle.books.proofs.withdraw_list.Tie as tie

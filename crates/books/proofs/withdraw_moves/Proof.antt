@@ -5,7 +5,7 @@ use denote.Ref.{now}
 use lib.ListN.{length}
 use Rattle.statements.specs.Calls.{withdrawFault}
 use Rattle.books.proofs.Made.{writes-refused}
-use Rattle.books.proofs.Demands.{demands}
+use Rattle.promises.proofs.Demands.{demands}
 use borrow.Author.Needs.{needs}
 use Rattle.books.proofs.withdraw_moves.Statement.{statement}
 use Rattle.books.proofs.withdraw_moves.Tie as tie

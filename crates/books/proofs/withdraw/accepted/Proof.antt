@@ -10,9 +10,10 @@ use lib.Bits.{and-le-l}
 use Rattle.statements.specs.Sets.{filter}
 use Rattle.statements.specs.Plants.{plantOf, allowed}
 use Rattle.statements.specs.Books.{bookKept}
+use Rattle.decoding.proofs.Sizes.{kept-few}
 use Rattle.decoding.proofs.Faults.{WithdrawOk, withdraw-ok, states-few}
 use Rattle.writing.proofs.Solved.{written-fits}
-use Rattle.books.proofs.Made.{kept-few, struck, withdraw-done}
+use Rattle.books.proofs.Made.{struck, withdraw-done}
 use borrow.Author.Needs.{needs}
 use Rattle.books.proofs.withdraw.accepted.Statement.{statement}
 use Rattle.books.proofs.withdraw.accepted.Tie as tie

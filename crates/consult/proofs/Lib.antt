@@ -1,0 +1,3 @@
+-- Laws of the calls that read a book.
+pub mod Arriving
+pub mod Consulted

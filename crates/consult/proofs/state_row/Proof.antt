@@ -1,0 +1,108 @@
+-- `consult::state_row` meets its contract: an accepted state's row starts at its first entry and stands within the book.
+-- Assumes nothing.
+use borrow.Author.Needs.{needs}
+use mathlib.Core.Path.{_≡_, refl, sym, ap, _∙_}
+use mathlib.Core.List.{List}
+use Prim.Native.Nat.{ℕ, _+_, _*_, _≤_}
+use native.Mathlib.Omega.{arith}
+use lib.Dec.{eqb}
+use lib.ListN.{length}
+use denote.Ref.{now}
+use Rattle.statements.specs.Books.{bookGoals}
+use Rattle.statements.specs.Calls.{consultFault}
+use Rattle.consult.proofs.Consulted.{no-row, no-start, empty-row, start-given, row-fits, row-is, full-row}
+use Rattle.consult.proofs.state_row.Statement.{statement}
+use Rattle.consult.proofs.state_row.Tie as tie
+
+consult-requires : tie.Need-consult-requires
+consult-requires c κs = search needs
+
+slice-aggregate-result : tie.Need-slice-aggregate-result
+slice-aggregate-result c = search needs
+
+returns : tie.Need-returns
+returns c =
+    let a = c .before .before .before .before .args in
+    let refused : consultFault (now (a .book)) (a .state) 0 ≡ 0 → ⊥ =
+    λ z. c .before .if1 .taken (c .before .before .consult .ensures ∙ z)
+    in (
+      sym (no-row (now (a .book)) (a .state) refused),
+      (
+        refl,
+        (
+          omega (arith, no-start (now (a .book)) (a .state) refused),
+          sym (empty-row (now (a .book)) (a .state) refused),
+        ),
+      ),
+    )
+
+entry-place-requires : tie.Need-entry-place-requires
+entry-place-requires c κs = search needs
+
+number-requires : tie.Need-number-requires
+number-requires c κs = search needs
+
+cast-end : tie.Need-cast-end
+cast-end c = search needs
+
+mul-end : tie.Need-mul-end
+mul-end c = search needs
+
+-- past the refusal: the call is accepted, and the row stands within the book
+given : (c : tie.After-number)
+    → let a = c .before .before .before .before .before .args in
+    consultFault (now (a .book)) (a .state) 0 ≡ 0
+given c = sym (c .before .before .before .consult .ensures) ∙ c .before .before .if1 .left
+
+within : (c : tie.After-number)
+    → let a = c .before .before .before .before .before .args in
+    c .before .entry-place .result + 4 * c .number .result ≤ length (now (a .book))
+unfolding bookGoals
+within c =
+    let a = c .before .before .before .before .before .args in
+    omega (arith, row-fits (now (a .book)) (a .state) (given c), c .before .entry-place .ensures, c .number .ensures)
+
+add-end : tie.Need-add-end
+add-end c = omega (arith, within c)
+
+sub-result : tie.Need-sub-result
+sub-result c = search needs
+
+part-result-start : tie.Need-part-result-start
+part-result-start c = search needs
+
+part-result-end : tie.Need-part-result-end
+part-result-end c = within c
+
+returns-2 : tie.Need-returns-2
+unfolding bookGoals
+returns-2 c =
+    let a = c .before .before .before .before .before .before .args in
+    let place = c .before .before .entry-place .ensures in
+    let part = row-is (now (a .book)) (a .state) (given (c .before)) _ _ place (c .before .number .ensures) in (
+      part,
+      (
+        refl,
+        (
+          omega (arith, place, start-given (now (a .book)) (a .state) (given (c .before))),
+          ap (λ (l : List ℕ). eqb (length l) 0) part ∙ full-row (now (a .book)) (a .state) (given (c .before)),
+        ),
+      ),
+    )
+
+pub state-row-spec : {M : Type 1} → statement M
+state-row-spec =
+    tie.close
+    (tie.spec
+    consult-requires
+    slice-aggregate-result
+    returns
+    entry-place-requires
+    number-requires
+    cast-end
+    mul-end
+    add-end
+    sub-result
+    part-result-start
+    part-result-end
+    returns-2)

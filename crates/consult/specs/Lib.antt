@@ -1,0 +1,1 @@
+-- No definitions of its own: what the calls promise is in crate promises, specs/Says.antt.

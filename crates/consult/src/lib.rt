@@ -1,0 +1,76 @@
+// The public calls that read a book: consult it for a move or for all good ones, hand back a state's row.
+mod goals;
+
+use promises::Advice;
+use promises::Mask;
+ghost use mathlib.Core.Path.{_≡_};
+ghost use mathlib.Core.Bool.{not};
+ghost use Prim.Native.Nat.{_+_};
+ghost use lib.Dec.{eqb};
+ghost use lib.ListN.{length};
+ghost use Rattle.statements.specs.Calls.{rowPart};
+ghost use Rattle.promises.specs.Says.{accepted, ConsultSays, MovesSays, rowStart};
+ghost use Rattle.promises.specs.Demands.{Demands};
+
+// Takes a book, a state and the goal sought. Answers lost, or the goal arrived at, where every goal that the state
+// serves is passed from the sought one onward in turn, with its move and its wait.
+pub fn consult_book(book: &[u8], state: u32, goal: u32) -> Advice
+    ensures { λ r. ⌜ ConsultSays (now (book .entry)) state goal r ⌝ }
+    ensures demands { λ _. ⌜ Demands ⌝ }
+{
+    let fault = refusals::consult(book, state, goal);
+    if fault != 0 {
+        return Advice {
+            number: fault,
+            lost: false,
+            action: 0,
+            wait: 0,
+            seek: 0,
+        };
+    }
+    if rows::is_lost(book, state) {
+        return Advice {
+            number: 0,
+            lost: true,
+            action: 0,
+            wait: 0,
+            seek: 0,
+        };
+    }
+    goals::advise(book, state, goal)
+}
+
+// Takes a plant, a book, a state and the goal sought. Answers all moves that meet the rule of the entry of the goal
+// arrived at, as a mask; 0 for a lost state.
+pub fn good_moves(plant: &[u8], book: &[u8], state: u32, goal: u32) -> Mask
+    ensures { λ r. ⌜ MovesSays (now (plant .entry)) (now (book .entry)) state goal r ⌝ }
+    ensures demands { λ _. ⌜ Demands ⌝ }
+{
+    let fault = refusals::moves(plant, book, state, goal);
+    if fault != 0 {
+        return Mask {
+            number: fault,
+            mask: 0,
+        };
+    }
+    let at = goals::arrive(book, state, goal);
+    Mask {
+        number: 0,
+        mask: moves::good(plant, book, state, at),
+    }
+}
+
+// Takes a book and a state and hands back that state's row as the part of the book lent; an empty part when refused.
+pub fn state_row<'a>(book: &'a [u8], state: u32) -> &'a [u8]
+    ensures bytes { λ r. ⌜ now r ≡ rowPart (now (book .entry)) state ⌝ }
+    ensures lent { λ r. ⌜ r .ptr .0 ≡ book .entry .ptr .0 ⌝ }
+    ensures place { λ r. ⌜ r .ptr .1 ≡ book .entry .ptr .1 + rowStart (now (book .entry)) state ⌝ }
+    ensures empty { λ r. ⌜ eqb (length (now r)) 0 ≡ not (accepted (now (book .entry)) state 0) ⌝ }
+{
+    if refusals::consult(book, state, 0) != 0 {
+        return &book[..0];
+    }
+    let start = rows::entry_place(book, state, 0);
+    let end = start + 4 * (format::word::number(book, 2) as usize);
+    &book[start..end]
+}

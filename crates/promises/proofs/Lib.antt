@@ -1,0 +1,10 @@
+-- Laws of what the public calls promise, and what that comes to.
+pub mod Read
+pub mod Listed
+pub mod Previewed
+pub mod Determined
+pub mod Traces
+pub mod InTurn
+pub mod Returning
+pub mod Walked
+pub mod Demands

@@ -1,0 +1,102 @@
+-- Demand 3 over calls as they go: each step has what was handed in, what the buffers held before and after, and the
+-- answer, related by what the function promises. Crate statements has the same of lists of masks and lengths.
+use mathlib.Core.Path.{_≡_}
+use mathlib.Core.Logic.{_↔_}
+use mathlib.Core.List.{List, [], _∷_}
+use Prim.Native.Nat.{ℕ}
+use lib.Dec.{eqb}
+use lib.ListN.{length, take}
+use Rattle.promises.specs.declared.Answer.{Answer}
+use Rattle.statements.specs.Sets.{pick}
+use Rattle.statements.specs.Plants.{plantOf}
+use Rattle.statements.specs.Books.{madeBook}
+use Rattle.statements.specs.Calls.{Call, makes, withdraws, withdrawsList, returns, told, inService}
+use Rattle.statements.specs.Demands.{Allowed, Right}
+use Rattle.promises.specs.Says.{MakeSays, WithdrawSays, WithdrawListSays, ReturnSays}
+
+-- a call that went: its mask, or its masks' bytes, its book buffer before and after, for withdrawals and returns its
+-- drop buffer before and after, and its answer
+pub data Step : Type 0 where
+  made : (mask : ℕ) (o o′ : List ℕ) (r : Answer) → Step
+  withdrew : (gone : ℕ) (o o′ d d′ : List ℕ) (r : Answer) → Step
+  withdrewList : (masks o o′ d d′ : List ℕ) (r : Answer) → Step
+  returned : (back : ℕ) (o o′ d d′ : List ℕ) (r : Answer) → Step
+
+-- the answer of a step, and its book buffer afterwards
+unfoldable pub answerIn : Step → Answer
+answerIn (made mask o o′ r) = r
+answerIn (withdrew gone o o′ d d′ r) = r
+answerIn (withdrewList masks o o′ d d′ r) = r
+answerIn (returned back o o′ d d′ r) = r
+
+unfoldable pub bufferIn : Step → List ℕ
+bufferIn (made mask o o′ r) = o′
+bufferIn (withdrew gone o o′ d d′ r) = o′
+bufferIn (withdrewList masks o o′ d d′ r) = o′
+bufferIn (returned back o o′ d d′ r) = o′
+
+-- a step keeps the function's promise, b being the standing book, which withdrawals and returns are handed
+abbrev pub Keeps : List ℕ → List ℕ → Step → Type 0
+Keeps s b (made mask o o′ r) = MakeSays s mask o o′ r
+Keeps s b (withdrew gone o o′ d d′ r) = WithdrawSays s b gone o o′ d d′ r
+Keeps s b (withdrewList masks o o′ d d′ r) = WithdrawListSays s b masks o o′ d d′ r
+Keeps s b (returned back o o′ d d′ r) = ReturnSays s b back o o′ d d′ r
+
+-- the standing book after a step: of an accepted call the first bytes of its buffer, as many as it returned
+unfoldable pub nextBook : List ℕ → Step → List ℕ
+nextBook b c = pick (eqb (answerIn c .number) 0) (take (answerIn c .length) (bufferIn c)) b
+
+unfoldable pub lastBook : List ℕ → List Step → List ℕ
+lastBook b [] = b
+lastBook b (c ∷ cs) = lastBook (nextBook b c) cs
+
+-- every step of a trace keeps its promise
+abbrev pub Trace : List ℕ → List ℕ → List Step → Type 0
+Trace s b [] = Unit {0}
+Trace s b (c ∷ cs) = Keeps s b c × Trace s (nextBook b c) cs
+
+-- what a trace returned, and its calls: masks and buffers' lengths alone
+unfoldable pub numbersIn : List Step → List ℕ
+numbersIn [] = []
+numbersIn (c ∷ cs) = answerIn c .number ∷ numbersIn cs
+
+unfoldable pub callOf : Step → Call
+callOf (made mask o o′ r) = makes mask (length o)
+callOf (withdrew gone o o′ d d′ r) = withdraws gone (length o) (length d)
+callOf (withdrewList masks o o′ d d′ r) = withdrawsList masks (length o) (length d)
+callOf (returned back o o′ d d′ r) = returns back (length o) (length d)
+
+unfoldable pub callsOf : List Step → List Call
+callsOf [] = []
+callsOf (c ∷ cs) = callOf c ∷ callsOf cs
+
+-- a trace that begins with an accepted make of the plant s: the make, and the steps after it
+pub record Begun (s : List ℕ) : Type 0 where
+  pub mask : ℕ
+  pub o : List ℕ
+  pub o′ : List ℕ
+  pub r : Answer
+  pub says : MakeSays s mask o o′ r
+  pub is-accepted : r .number ≡ 0
+  pub steps : List Step
+  pub goes : Trace s (take (r .length) o′) steps
+
+-- its last standing book, and the moves then in service, told from the calls alone
+unfoldable pub bookAfter : (s : List ℕ) → Begun s → List ℕ
+bookAfter s t = lastBook (take (t .r .length) (t .o′)) (t .steps)
+
+unfoldable pub serviceAfter : (s : List ℕ) → Begun s → ℕ
+serviceAfter s t = inService (plantOf s) (t .mask) (callsOf (t .steps))
+
+-- demand 3 of every such trace
+pub record Demand-3-traced : Type 0 where
+  -- the standing book is that of a making afresh with the moves in service
+  pub as-afresh : (s : List ℕ) (t : Begun s) → bookAfter s t ≡ madeBook (plantOf s) (serviceAfter s t)
+  -- so that demand 2 and requests (i) and (v) hold of it
+  pub right : (s : List ℕ) (t : Begun s) →
+      Right (plantOf s) (serviceAfter s t) (Allowed (plantOf s)) (bookAfter s t)
+  -- each answer's number is told from the masks and the buffers' lengths alone
+  pub told-alone : (s : List ℕ) (t : Begun s) → numbersIn (t .steps) ≡ told (plantOf s) (callsOf (t .steps))
+  -- two such traces on one plant end with equal books exactly when the same moves are in service
+  pub equal-books : (s : List ℕ) (t u : Begun s) →
+      (bookAfter s t ≡ bookAfter s u) ↔ (serviceAfter s t ≡ serviceAfter s u)
