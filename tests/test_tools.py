@@ -1,4 +1,4 @@
-"""Tests of ./run and of plant.py, picture.py and cost.py in tools/. tests/tools.sh runs them."""
+"""Tests of ./run and of plant.py, picture.py, cost.py and gain.py in tools/. tests/tools.sh runs them."""
 from __future__ import annotations
 
 import os
@@ -21,7 +21,8 @@ import listing  # noqa: E402
 import plant  # noqa: E402
 
 RUN = os.path.join(TOP, "run")
-PLANT_PY, PICTURE_PY, COST_PY = (os.path.join(TOP, "tools", name) for name in ("plant.py", "picture.py", "cost.py"))
+PLANT_PY, PICTURE_PY, COST_PY, GAIN_PY = (os.path.join(TOP, "tools", f"{name}.py")
+                                          for name in ("plant", "picture", "cost", "gain"))
 EXAMPLES = os.path.join(TOP, "examples")
 EXAMPLE_PLANTS = sorted(name for name in os.listdir(EXAMPLES) if name.endswith(".plant"))
 
@@ -309,6 +310,7 @@ class Run(Case):
             self.fails(status, words, RUN, "--picture", self.path("out.html"), strip, "7", env=env)
             self.assertFalse(os.path.exists(self.path("out.html")))
             self.fails(status, words, RUN, "--cost", strip, "7", "1", env=env)
+            self.fails(status, words, RUN, "--gain", strip, "7", "1", "1", env=env)
         self.fails(3, "PLANBOOK_BIN names no program", RUN, strip, "7", env={"PLANBOOK_BIN": self.path("none")})
 
     def test_help_and_options(self) -> None:
@@ -316,6 +318,7 @@ class Run(Case):
         self.assertEqual((code, error), (0, ""))
         self.assertIn("--picture OUT.html", out)
         self.assertIn("--cost PLANT", out)
+        self.assertIn("--gain PLANT", out)
         self.fails(2, "unknown option --colour", RUN, "--colour")
         self.fails(2, "there is no such file", RUN, "", "7")
 
@@ -406,7 +409,7 @@ class Picture(Case):
             _, page = self.draw(self.example(name), *masks.split())
             self.assertEqual(sorted(self.states(page, "dropped")), dropped)
             _, out, _ = self.call(RUN, "--cost", self.example(name), *masks.split())
-            self.assertEqual(cost_states(out), dropped)
+            self.assertEqual(states_told(out), dropped)
 
     def test_strip_plant_is_drawn_when_no_plant_is_named(self) -> None:
         self.assertEqual(self.call(RUN, "--picture", self.path("out.html")), (0, "", ""))
@@ -446,9 +449,16 @@ class Picture(Case):
         self.assertEqual(os.listdir(self.folder), ["bad.plant"])
 
 
-# What taking the drive side cylinder out costs: it takes part in moves 2, 3 and 4 of examples/lockout.plant.
+# The drive side cylinder takes part in moves 2, 3 and 4 of examples/lockout.plant. What taking it out costs, and what
+# its repair gains.
 LOCKOUT_COST = """would go out of service: move 2 drive side down; move 3 both sides down; move 4 both sides up
 3 of 5 kept states would be dropped, 2 would stay kept
+2  drive side heavy
+3  both sides heavy
+4  centre wave
+"""
+LOCKOUT_GAIN = """would come back in service: move 2 drive side down; move 3 both sides down; move 4 both sides up
+3 of 4 lost states would be gained, 5 would then be kept
 2  drive side heavy
 3  both sides heavy
 4  centre wave
@@ -461,8 +471,14 @@ def strip_cost(moves: str, dropped: int, kept: int, after: int) -> str:
            f"{after} would stay kept\n" + "".join(f"{state}\n" for state in range(dropped))
 
 
-def cost_states(text: str) -> List[int]:
-    """The states that a cost lists."""
+def strip_gain(moves: str, gained: int, lost: int, after: int) -> str:
+    """What a repair on P gains: none of the states lost, or all that are allowed, which are the first ones."""
+    return f"would come back in service: {moves}\n{gained} of {lost} lost states would be gained, " \
+           f"{after} would then be kept\n" + "".join(f"{state}\n" for state in range(gained))
+
+
+def states_told(text: str) -> List[int]:
+    """The states that a cost or a gain lists."""
     return [int(line.split()[0]) for line in text.splitlines()[2:]]
 
 
@@ -471,133 +487,255 @@ def kept_states(text: str) -> Set[int]:
     return {int(line.split()[0]) for line in text.splitlines()[1:] if not line.endswith(" lost")}
 
 
-class Cost(Case):
-    """What ./run --cost says. The texts expected are worked out by hand, from document 01's M1 to M4 and the plants."""
+def share(fewer: int, more: int) -> str:
+    """How many of the states kept with more moves in service are lost with fewer; both are counts of kept states."""
+    return "none" if fewer == more else "some" if fewer else "all"
 
-    def says(self, expected: str, source: str, masks: str, env: Optional[Dict[str, str]] = None) -> None:
-        self.assertEqual(self.call(RUN, "--cost", source, *masks.split(), env=env), (0, expected, ""))
 
-    def test_marked_examples(self) -> None:
-        strip = self.example("strip")
-        self.says(strip_cost("move 0", 3, 3, 0), strip, "7 1")
-        self.says(strip_cost("move 1", 0, 3, 3), strip, "7 0x2")
-        self.says(strip_cost("move 2", 0, 3, 3), strip, "7 4")
+def example_plants() -> List[Tuple[str, plant.Plant]]:
+    """Every example: its path, and the plant."""
+    paths = [os.path.join(EXAMPLES, name) for name in EXAMPLE_PLANTS]
+    return [(path, plant.read_plant(path)) for path in paths]
 
-    def test_the_guide_has_the_lockout_of_a_cylinder(self) -> None:
-        self.says(LOCKOUT_COST, self.example("lockout"), "0x1f 0x1c")
+
+# The listings of P with all moves in service, and without move 0.
+STRIP_ALL = "3 of 4 kept, 3 moves in service\n0 0 0 0\n0 1 2 0\n1 0 1 2\n1 1 1 0\n2 0 1 0\n2 1 0 0\n3 lost\n"
+STRIP_LESS = "0 of 4 kept, 2 moves in service\n0 lost\n1 lost\n2 lost\n3 lost\n"
+
+
+def contradictions(contrary: str) -> List[Tuple[str, str, str]]:
+    """These listings spoilt, with the words of the error: first each keeps what the other should, which is contrary."""
+    return [(STRIP_LESS.replace("2 moves", "3 moves"), STRIP_ALL.replace("3 moves", "2 moves"), contrary),
+            (STRIP_ALL.replace("3 of", "4 of"), STRIP_LESS, "does not add up"),
+            (STRIP_ALL, STRIP_LESS.replace("0 of", "1 of"), "does not add up"),
+            (STRIP_ALL.replace("3 moves", "2 moves"), STRIP_LESS, "other moves in service"),
+            (STRIP_ALL, STRIP_LESS.replace("2 moves", "3 moves"), "other moves in service")]
+
+
+class Question(Case):
+    """Asks --cost or --gain. The texts expected are worked out by hand, from document 01's M1 to M4 and the plants."""
+
+    def says(self, expected: str, option: str, source: str, masks: str, env: Optional[Dict[str, str]] = None) -> None:
+        self.assertEqual(self.call(RUN, option, source, *masks.split(), env=env), (0, expected, ""))
+
+    def refuses(self, status: int, words: str, option: str, source: str, masks: str,
+                env: Optional[Dict[str, str]] = None) -> None:
+        self.fails(status, words, RUN, option, source, *masks.split(), env=env)
+
+    def kept(self, source: str, masks: List[int]) -> Set[int]:
+        """The states that the listing of these masks keeps."""
+        return kept_states(self.call(RUN, source, *(str(mask) for mask in masks))[1])
+
+    def tells(self, states: Set[int], counts: str, option: str, source: str, masks: List[int]) -> None:
+        """The answer lists these states, and has this line of counts."""
+        code, out, error = self.call(RUN, option, source, *(str(mask) for mask in masks))
+        self.assertEqual((code, error, states_told(out)), (0, "", sorted(states)), (source, masks))
+        self.assertEqual(out.splitlines()[1], counts, (source, masks))
+
+    def two_listings(self, one: str, more: str) -> Dict[str, str]:
+        """A stand-in planner with a listing for P and one mask, 76 bytes, and another for P and more."""
+        script = f"if [ $(wc -c) -eq 76 ]; then printf '%s' '{one}'; else printf '%s' '{more}'; fi"
+        return {"PLANBOOK_BIN": self.program("planner", script)}
+
+
+class CostAndGain(Question):
+    """What ./run says with --cost and with --gain, in like cases."""
+
+    def test_the_guide_has_the_answers_about_a_cylinder(self) -> None:
         with open(os.path.join(TOP, "docs", "USING.md"), encoding="utf-8") as file:
-            shown = "$ ./run --cost examples/lockout.plant 0x1f 0x1c\n" + LOCKOUT_COST
-            self.assertIn("".join(f"    {line}\n" for line in shown.splitlines()), file.read())
-
-    def test_only_the_last_mask_is_asked_about(self) -> None:
-        # Without move 2 state 2 is lost already; state 3 has move 3 left and state 4 move 4.
-        self.says("would go out of service: move 3 both sides down; move 4 both sides up\n"
-                  "2 of 4 kept states would be dropped, 2 would stay kept\n3  both sides heavy\n4  centre wave\n",
-                  self.example("lockout"), "0x1f 0x04 0x18")
-
-    def test_moves_that_are_out_already(self) -> None:
-        strip = self.example("strip")
-        self.says(strip_cost("move 0", 3, 3, 0), strip, "7 4 5")
-        self.says(strip_cost("no move", 0, 3, 3), strip, "7 4 4")
-        self.says(strip_cost("no move", 0, 3, 3), strip, "7 0")
-        self.says(strip_cost("no move", 0, 0, 0), strip, "0 7")
+            guide = file.read()
+        for expected, option, masks in ((LOCKOUT_COST, "--cost", "0x1f 0x1c"),
+                                        (LOCKOUT_GAIN, "--gain", "0x1f 0x1c 0x1c")):
+            self.says(expected, option, self.example("lockout"), masks)
+            shown = f"$ ./run {option} examples/lockout.plant {masks}\n" + expected
+            self.assertIn("".join(f"    {line}\n" for line in shown.splitlines()), guide)
 
     def test_bytes_have_no_names(self) -> None:
-        data = plant.to_bytes(plant.read_plant(self.example("lockout")))
+        source = self.write("lockout.bin", plant.to_bytes(plant.read_plant(self.example("lockout"))))
         self.says("would go out of service: move 2; move 3; move 4\n"
-                  "3 of 5 kept states would be dropped, 2 would stay kept\n2\n3\n4\n",
-                  self.write("lockout.bin", data), "0x1f 0x1c")
+                  "3 of 5 kept states would be dropped, 2 would stay kept\n2\n3\n4\n", "--cost", source, "0x1f 0x1c")
+        self.says("would come back in service: move 2; move 3; move 4\n3 of 4 lost states would be gained, "
+                  "5 would then be kept\n2\n3\n4\n", "--gain", source, "0x1f 0x1c 0x1c")
 
     def test_names_and_numbers_in_columns(self) -> None:
         lines = ["plant states 11 moves 2 goals 1", 'move 1 "¼ turn up"', 'state 9 allowed goal 0 "½ mm, on aim"']
         lines += [f"state {state} allowed goal 0" for state in range(11) if state != 9]
         lines += [f"arrow {state} {state // 9} -> {state}" for state in range(11)]
-        self.says("would go out of service: move 1 ¼ turn up\n"
-                  "2 of 11 kept states would be dropped, 9 would stay kept\n 9  ½ mm, on aim\n10\n",
-                  self.write("a.plant", "\n".join(lines).encode()), "3 2", env={"PYTHONIOENCODING": "ascii"})
+        source, env = self.write("a.plant", "\n".join(lines).encode()), {"PYTHONIOENCODING": "ascii"}
+        states = " 9  ½ mm, on aim\n10\n"
+        self.says("would go out of service: move 1 ¼ turn up\n2 of 11 kept states would be dropped, "
+                  "9 would stay kept\n" + states, "--cost", source, "3 2", env=env)
+        self.says("would come back in service: move 1 ¼ turn up\n2 of 2 lost states would be gained, "
+                  "11 would then be kept\n" + states, "--gain", source, "1 2", env=env)
 
     def test_the_most_states(self) -> None:
         largest = plant.Plant(1024, 1, 1, [3] * 1024, [(state, 0, state) for state in range(1024)])
-        expected = "would go out of service: move 0\n1024 of 1024 kept states would be dropped, 0 would stay kept\n"
-        expected += "".join(f"{state:>4}\n" for state in range(1024))
-        code, out, error = self.call(RUN, "--cost", self.write("a.bin", plant.to_bytes(largest)), "1", "1")
-        self.assertEqual((code, error), (0, ""))
-        self.assertTrue(out == expected, out[:200])
+        source = self.write("a.bin", plant.to_bytes(largest))
+        states = "".join(f"{state:>4}\n" for state in range(1024))
+        for words, expected in (("--cost 1 1", "would go out of service: move 0\n"
+                                 "1024 of 1024 kept states would be dropped, 0 would stay kept\n"),
+                                ("--gain 0 1", "would come back in service: move 0\n"
+                                 "1024 of 1024 lost states would be gained, 1024 would then be kept\n")):
+            option, *masks = words.split()
+            code, out, error = self.call(RUN, option, source, *masks)
+            self.assertEqual((code, error), (0, ""))
+            self.assertTrue(out == expected + states, out[:200])
 
     def test_how_many_masks(self) -> None:
         strip = self.example("strip")
-        self.fails(2, "--cost needs a plant, the moves in service and the lock-out", RUN, "--cost")
-        for masks in ([], ["7"]):
-            self.fails(2, "at least two masks, the moves in service first and the lock-out last",
-                       RUN, "--cost", strip, *masks)
-        self.says(strip_cost("move 0", 3, 3, 0), strip, "7" + " 4" * 14 + " 1")
-        self.fails(2, "17 masks are too many", RUN, "--cost", strip, "7", *["4"] * 15, "1")
+        for option, asked, last in (("--cost", "the lock-out", "the lock-out"),
+                                    ("--gain", "the moves that come back", "those that come back")):
+            self.fails(2, f"{option} needs a plant, the moves in service and {asked};", RUN, option)
+            for masks in ("", "7"):
+                self.refuses(2, f"least two masks, the moves in service first and {last} last;", option, strip, masks)
+            self.refuses(2, "17 masks are too many", option, strip, "7" + " 4" * 15 + " 1")
+        self.says(strip_cost("move 0", 3, 3, 0), "--cost", strip, "7" + " 4" * 14 + " 1")
+        self.says(strip_gain("move 0", 3, 4, 3), "--gain", strip, "6" + " 4" * 14 + " 1")
 
     def test_bad_masks_and_files(self) -> None:
         strip = self.example("strip")
-        for masks in (["x", "1"], ["7", "x"], ["7", "4294967296"]):
-            self.fails(2, "is no mask", RUN, "--cost", strip, *masks)
-        for masks in (["8", "1"], ["7", "8"], ["7", "8", "1"], ["7", "0xffffffff"]):
-            self.fails(1, "refused 6: a mask names a move", RUN, "--cost", strip, *masks)
-        self.fails(2, "there is no such file", RUN, "--cost", self.path("none.plant"), "7", "1")
-        self.fails(2, "is not a file", RUN, "--cost", self.folder, "7", "1")
-        self.fails(2, "bad.plant:3: ", RUN, "--cost", self.write("bad.plant", b"\n\nx\n"), "7", "1")
         data = plant.to_bytes(plant.read_plant(strip))
-        for number, bad in ((1, data[:-4]), (2, changed(data, 8, 8)), (3, changed(data, 12, 4))):
-            self.fails(2, f"refuses this with {number}", RUN, "--cost", self.write("a.bin", bad), "7", "1")
+        bad = self.write("bad.plant", b"\n\nx\n")
+        for option in ("--cost", "--gain"):
+            for masks in ("x 1", "7 x", "7 4294967296"):
+                self.refuses(2, "is no mask", option, strip, masks)
+            for masks in ("8 1", "7 8", "7 8 1", "7 0xffffffff"):
+                self.refuses(1, "refused 6: a mask names a move", option, strip, masks)
+            self.refuses(2, "there is no such file", option, self.path("none.plant"), "7 1")
+            self.refuses(2, "is not a file", option, self.folder, "7 1")
+            self.refuses(2, "bad.plant:3: ", option, bad, "7 1")
+            for number, spoilt in ((1, data[:-4]), (2, changed(data, 8, 8)), (3, changed(data, 12, 4))):
+                self.refuses(2, f"refuses this with {number}", option, self.write("a.bin", spoilt), "7 1")
 
     def test_no_python_and_no_planner(self) -> None:
         source = self.write("a.bin", plant.to_bytes(plant.read_plant(self.example("strip"))))
-        self.fails(3, "python3 is needed for the cost of a lock-out", shutil.which("bash") or "", RUN, "--cost", source,
-                   "7", "1", env={"PATH": self.few_tools()})
-        env = {"PLANBOOK_BIN": self.path("none")}
-        self.fails(3, "PLANBOOK_BIN names no program", RUN, "--cost", source, "7", "1", env=env)
-        self.fails(3, "planbook is not there", COST_PY, source, "7", "1", env=env)
+        bash, few = shutil.which("bash") or "", {"PATH": self.few_tools()}
+        none = {"PLANBOOK_BIN": self.path("none")}
+        for option, tool, what in (("--cost", COST_PY, "the cost of a lock-out"),
+                                   ("--gain", GAIN_PY, "the gain of a repair")):
+            self.fails(3, f"python3 is needed for {what}, ", bash, RUN, option, source, "7", "1", env=few)
+            self.refuses(3, "PLANBOOK_BIN names no program", option, source, "7 1", env=none)
+            self.fails(3, "planbook is not there", tool, source, "7", "1", env=none)
+
+
+class Cost(Question):
+    """What ./run --cost says."""
+
+    def test_marked_examples(self) -> None:
+        strip = self.example("strip")
+        self.says(strip_cost("move 0", 3, 3, 0), "--cost", strip, "7 1")
+        self.says(strip_cost("move 1", 0, 3, 3), "--cost", strip, "7 0x2")
+        self.says(strip_cost("move 2", 0, 3, 3), "--cost", strip, "7 4")
+
+    def test_only_the_last_mask_is_asked_about(self) -> None:
+        # Without move 2 state 2 is lost already; state 3 has move 3 left and state 4 move 4.
+        self.says("would go out of service: move 3 both sides down; move 4 both sides up\n"
+                  "2 of 4 kept states would be dropped, 2 would stay kept\n3  both sides heavy\n4  centre wave\n",
+                  "--cost", self.example("lockout"), "0x1f 0x04 0x18")
+
+    def test_moves_that_are_out_already(self) -> None:
+        strip = self.example("strip")
+        self.says(strip_cost("move 0", 3, 3, 0), "--cost", strip, "7 4 5")
+        self.says(strip_cost("no move", 0, 3, 3), "--cost", strip, "7 4 4")
+        self.says(strip_cost("no move", 0, 3, 3), "--cost", strip, "7 0")
+        self.says(strip_cost("no move", 0, 0, 0), "--cost", strip, "0 7")
 
     def test_listings_that_do_not_add_up(self) -> None:
-        first = "3 of 4 kept, 3 moves in service\n0 0 0 0\n0 1 2 0\n1 0 1 2\n1 1 1 0\n2 0 1 0\n2 1 0 0\n3 lost\n"
-        last = "0 of 4 kept, 2 moves in service\n0 lost\n1 lost\n2 lost\n3 lost\n"
         strip, out = self.example("strip"), self.path("out.html")
-        self.says(strip_cost("move 0", 3, 3, 0), strip, "7 1", env=self.two_listings(first, last))
-        swapped = last.replace("2 moves", "3 moves"), first.replace("3 moves", "2 moves")
-        for before, after, words in ((*swapped, "state 0 is lost before a withdrawal and kept after it"),
-                                     (first.replace("3 of", "4 of"), last, "does not add up"),
-                                     (first, last.replace("0 of", "1 of"), "does not add up"),
-                                     (first.replace("3 moves", "2 moves"), last, "other moves in service"),
-                                     (first, last.replace("2 moves", "3 moves"), "other moves in service")):
-            env = self.two_listings(before, after)
-            self.fails(3, words, RUN, "--cost", strip, "7", "1", env=env)
+        self.says(strip_cost("move 0", 3, 3, 0), "--cost", strip, "7 1", env=self.two_listings(STRIP_ALL, STRIP_LESS))
+        for one, more, words in contradictions("state 0 is lost before a withdrawal and kept after it"):
+            env = self.two_listings(one, more)
+            self.refuses(3, words, "--cost", strip, "7 1", env=env)
             self.fails(3, words, RUN, "--picture", out, strip, "7", "1", env=env)
             self.assertFalse(os.path.exists(out))
-
-    def two_listings(self, before: str, after: str) -> Dict[str, str]:
-        """A stand-in planner with a listing for P and one mask, 76 bytes, and another for P and more."""
-        script = f"if [ $(wc -c) -eq 76 ]; then printf '%s' '{before}'; else printf '%s' '{after}'; fi"
-        return {"PLANBOOK_BIN": self.program("planner", script)}
 
     def test_dropped_states_are_the_difference_of_two_listings(self) -> None:
         pick = random.Random(1)
         shares = set()
-        for name in EXAMPLE_PLANTS:
-            source = os.path.join(EXAMPLES, name)
-            moves = plant.read_plant(source).moves
+        for source, read in example_plants():
             for count in (2, 2, 3, 3):
-                masks = [str((1 << moves) - 1)] + [str(1 << pick.randrange(moves)) for _ in range(count - 1)]
-                before, after = (kept_states(self.call(RUN, source, *some)[1]) for some in (masks[:-1], masks))
-                code, out, error = self.call(RUN, "--cost", source, *masks)
-                self.assertEqual((code, error, cost_states(out)), (0, "", sorted(before - after)), (name, masks))
-                self.assertEqual(out.splitlines()[1], f"{len(before - after)} of {len(before)} kept states would be "
-                                 f"dropped, {len(after)} would stay kept")
-                shares.add("none" if before == after else "some" if after else "all")
+                masks = [(1 << read.moves) - 1] + [1 << pick.randrange(read.moves) for _ in range(count - 1)]
+                before, after = self.kept(source, masks[:-1]), self.kept(source, masks)
+                self.tells(before - after, f"{len(before - after)} of {len(before)} kept states would be dropped, "
+                           f"{len(after)} would stay kept", "--cost", source, masks)
+                shares.add(share(len(after), len(before)))
+        self.assertEqual(shares, {"none", "some", "all"})
+
+
+class Gain(Question):
+    """What ./run --gain says. With move 0 in service P keeps all but state 3, which is not allowed; without it none."""
+
+    def test_marked_examples(self) -> None:
+        strip = self.example("strip")
+        for masks in ("6 1", "7 1 1", "0 0x1"):
+            self.says(strip_gain("move 0", 3, 4, 3), "--gain", strip, masks)
+        self.says(strip_gain("move 1", 0, 1, 3), "--gain", strip, "7 2 2")
+        self.says(strip_gain("move 2", 0, 1, 3), "--gain", strip, "3 0x4")
+        self.says(strip_gain("move 1; move 2", 0, 4, 0), "--gain", strip, "0 6")
+        self.says(strip_gain("move 0; move 1; move 2", 3, 4, 3), "--gain", strip, "0 7")
+
+    def test_only_the_last_mask_comes_back(self) -> None:
+        # State 2 hangs on move 2, state 4 on move 4; state 3 has move 3, and moves 1 and 2 by way of states 2 and 1.
+        lockout = self.example("lockout")
+        back = "would come back in service: move 3 both sides down; move 4 both sides up\n"
+        for masks in ("0x1f 0x04 0x18 0x18", "0x1f 0x1c 0x18", "0x1f 0x18 0x04 0x18"):
+            self.says(back + "2 of 4 lost states would be gained, 4 would then be kept\n"
+                      "3  both sides heavy\n4  centre wave\n", "--gain", lockout, masks)
+        self.says("would come back in service: move 2 drive side down\n2 of 4 lost states would be gained, "
+                  "4 would then be kept\n2  drive side heavy\n3  both sides heavy\n",
+                  "--gain", lockout, "0x1f 0x18 0x04 0x04")
+        self.says(back + "1 of 2 lost states would be gained, 5 would then be kept\n4  centre wave\n",
+                  "--gain", lockout, "0x07 0x18")
+
+    def test_moves_that_are_in_service_already(self) -> None:
+        strip = self.example("strip")
+        for masks in ("7 7", "7 1", "7 0", "7 4 3"):
+            self.says(strip_gain("no move", 0, 1, 3), "--gain", strip, masks)
+        self.says(strip_gain("no move", 0, 4, 0), "--gain", strip, "7 1 6")
+        self.says(strip_gain("move 0", 3, 4, 3), "--gain", strip, "7 1 7")
+        self.says(strip_gain("move 2", 0, 1, 3), "--gain", strip, "7 4 7")
+
+    def test_listings_that_do_not_add_up(self) -> None:
+        # The listing without move 0 has two masks and comes before; that with all moves has one and comes after.
+        strip = self.example("strip")
+        self.says(strip_gain("move 0", 3, 4, 3), "--gain", strip, "7 1 1", env=self.two_listings(STRIP_ALL, STRIP_LESS))
+        for one, more, words in contradictions("state 0 is kept before a return and lost after it"):
+            self.refuses(3, words, "--gain", strip, "7 1 1", env=self.two_listings(one, more))
+
+    def test_gained_states_are_the_difference_of_two_listings(self) -> None:
+        pick = random.Random(1)
+        shares = set()
+        for source, read in example_plants():
+            everything = (1 << read.moves) - 1
+            for first, out in ((everything, 1 << pick.randrange(read.moves)), (everything, pick.randint(0, everything)),
+                               (pick.randint(0, everything), 0), (pick.randint(0, everything), 1)):
+                back = pick.randint(0, everything)
+                before, after = self.kept(source, [first, out]), self.kept(source, [first & ~out | back])
+                self.tells(after - before, f"{len(after - before)} of {read.states - len(before)} lost states would be "
+                           f"gained, {len(after)} would then be kept", "--gain", source, [first, out, back])
+                shares.add(share(len(before), len(after)))
+        self.assertEqual(shares, {"none", "some", "all"})
+
+    def test_what_is_withdrawn_and_comes_back(self) -> None:
+        shares = set()
+        for source, read in example_plants():
+            for move in range(read.moves):
+                masks = [(1 << read.moves) - 1, 1 << move]
+                _, out, _ = self.call(RUN, "--cost", source, *(str(mask) for mask in masks))
+                dropped, kept, after = (int(number) for number in re.findall(r"\d+", out.splitlines()[1]))
+                self.tells(set(states_told(out)), f"{dropped} of {read.states - after} lost states would be gained, "
+                           f"{kept} would then be kept", "--gain", source, masks + [1 << move])
+                shares.add(share(after, kept))
         self.assertEqual(shares, {"none", "some", "all"})
 
 
 class Commands(Case):
-    """picture.py and cost.py by themselves, without ./run."""
+    """picture.py, cost.py and gain.py by themselves, without ./run."""
 
     def test_help_and_usage(self) -> None:
         for path, call in ((PICTURE_PY, "picture.py OUT.html PLANT MASK [MASK...]"),
-                           (COST_PY, "cost.py PLANT MASK [MASK...] MASK")):
+                           (COST_PY, "cost.py PLANT MASK [MASK...] MASK"),
+                           (GAIN_PY, "gain.py PLANT MASK [MASK...] MASK")):
             for word in ("-h", "--help"):
                 code, out, error = self.call(path, word)
                 self.assertEqual((code, error, out.splitlines()[2]), (0, "", "    " + call))
@@ -606,13 +744,14 @@ class Commands(Case):
 
     def test_masks(self) -> None:
         strip, out = self.example("strip"), self.path("out.html")
-        for start in ([PICTURE_PY, out, strip], [COST_PY, strip]):
+        for start in ([PICTURE_PY, out, strip], [COST_PY, strip], [GAIN_PY, strip]):
             self.fails(2, "'7x' is no mask", *start, "7", "7x")
             self.fails(2, "17 masks are too many: a list has at most 16", *start, *["7"] * 17)
             self.fails(1, "refused 6: a mask names a move", *start, "7", "8")
             self.assertFalse(os.path.exists(out))
         self.assertEqual(self.call(PICTURE_PY, out, strip, *["7"] * 16), (0, "", ""))
         self.assertEqual(self.call(COST_PY, strip, "7", *["4"] * 14, "1"), (0, strip_cost("move 0", 3, 3, 0), ""))
+        self.assertEqual(self.call(GAIN_PY, strip, "6", *["4"] * 14, "1"), (0, strip_gain("move 0", 3, 4, 3), ""))
 
 
 class Listing(Case):

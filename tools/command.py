@@ -1,11 +1,11 @@
-"""What the commands that ask planbook have in common: their help, their masks, and how an error is said."""
+"""What the commands that ask planbook have in common: their help, their masks, and how an answer or error is said."""
 from __future__ import annotations
 
 import sys
 from typing import Callable, List, Optional, Sequence
 
 from listing import MAX_MASKS, PlannerError, Refused, mask_from
-from plant import PlantError
+from plant import Plant, PlantError, read_plant
 
 
 def masks_from(words: Sequence[str]) -> List[int]:
@@ -19,6 +19,17 @@ def masks_from(words: Sequence[str]) -> List[int]:
             raise PlantError(f"'{word}' is no mask: give a number from 0 to 4294967295, decimal or 0x hex")
         masks.append(mask)
     return masks
+
+
+def run_report(text: Optional[str], report: Callable[[Plant, List[int]], List[str]], words: List[str]) -> int:
+    """Prints the lines of a report on a plant and two or more masks, and gives the exit status."""
+    def say(source: str, *last: str) -> None:
+        masks = masks_from(last)
+        lines = report(read_plant(source), masks)
+        # In UTF-8, as a plant's names are written, whatever the terminal is set to.
+        sys.stdout.buffer.write("".join(f"{line}\n" for line in lines).encode())
+
+    return run_command(text, 3, say, words)
 
 
 def run_command(text: Optional[str], least: int, work: Callable[..., None], words: List[str]) -> int:

@@ -12,33 +12,21 @@ from __future__ import annotations
 import sys
 from typing import List
 
-from command import masks_from, run_command
-from facts import move_list
+from command import run_report
+from facts import move_list, state_lines
 from listing import book, dropped, service
-from plant import Plant, read_plant
+from plant import Plant
 
 
-def report(plant: Plant, masks: List[int]) -> str:
+def report(plant: Plant, masks: List[int]) -> List[str]:
     """The moves that would go, the counts, then a line for each state that would be dropped."""
     before, after = book(plant, masks[:-1]), book(plant, masks)
     states = dropped(before, after)
     going = service(masks[:-1]) & masks[-1]
-    lines = [f"would go out of service: {move_list(plant, going)}",
-             f"{len(states)} of {len(before.rows)} kept states would be dropped, {len(after.rows)} would stay kept"]
-    return "\n".join(lines + state_lines(plant, states)) + "\n"
-
-
-def state_lines(plant: Plant, states: List[int]) -> List[str]:
-    """The numbers in a column, then, set off from them, the names that there are: a name may begin with a number."""
-    width = max((len(str(state)) for state in states), default=0)
-    return [f"{state:{width}}  {plant.state_names.get(state, '')}".rstrip() for state in states]
-
-
-def say(source: str, *words: str) -> None:
-    """In UTF-8, as a plant's names are written, whatever the terminal is set to."""
-    masks = masks_from(words)
-    sys.stdout.buffer.write(report(read_plant(source), masks).encode())
+    return [f"would go out of service: {move_list(plant, going)}",
+            f"{len(states)} of {len(before.rows)} kept states would be dropped, {len(after.rows)} would stay kept",
+            *state_lines(plant, states)]
 
 
 if __name__ == "__main__":
-    sys.exit(run_command(__doc__, 3, say, sys.argv[1:]))
+    sys.exit(run_report(__doc__, report, sys.argv[1:]))

@@ -1,4 +1,5 @@
-"""What a picture shows: a plant, the masks, the book after all of them and the states dropped since the first."""
+"""What a picture shows: a plant, the masks, the book after all of them and the states dropped since the first.
+Besides, how the tools write moves and states."""
 from __future__ import annotations
 
 from dataclasses import dataclass
@@ -76,6 +77,12 @@ def move_list(plant: Plant, mask: int) -> str:
     """The plant's moves in a mask, with their names; a name may have a comma in it."""
     moves = [named("move", move, plant.move_names) for move in range(plant.moves) if mask >> move & 1]
     return "; ".join(moves) or "no move"
+
+
+def state_lines(plant: Plant, states: List[int]) -> List[str]:
+    """The numbers in a column, then, set off from them, the names that there are: a name may begin with a number."""
+    width = max((len(str(state)) for state in states), default=0)
+    return [f"{state:{width}}  {plant.state_names.get(state, '')}".rstrip() for state in states]
 
 
 def ranges(numbers: Sequence[int]) -> str:

@@ -1,5 +1,5 @@
 """Runs planbook on a plant and masks, and reads the listing it prints. Nothing about a book is worked out here;
-which states a withdrawal drops is read off two listings."""
+which states a withdrawal drops or a return gains is read off two listings."""
 from __future__ import annotations
 
 import os
@@ -120,12 +120,22 @@ def entry(line: List[str], state: int, goal: int) -> Entry:
 
 def dropped(before: Book, after: Book) -> List[int]:
     """The states kept before a withdrawal and lost after it, by rising number."""
-    # No state is kept after it alone. So those dropped and those kept after it add up to those kept before.
-    gained = sorted(set(after.rows) - set(before.rows))
-    if gained:
-        raise PlannerError("planbook's listings do not add up: "
-                           f"state {gained[0]} is lost before a withdrawal and kept after it")
-    return sorted(set(before.rows) - set(after.rows))
+    return beyond(before, after, "lost before a withdrawal and kept after it")
+
+
+def gained(before: Book, after: Book) -> List[int]:
+    """The states lost before a return and kept after it, by rising number."""
+    return beyond(after, before, "kept before a return and lost after it")
+
+
+def beyond(more: Book, fewer: Book, contrary: str) -> List[int]:
+    """The states kept with more moves in service and lost with fewer, by rising number."""
+    # No state is kept with fewer alone; contrary is what it would be. So the states listed and those kept with fewer
+    # add up to those kept with more.
+    wrong = sorted(set(fewer.rows) - set(more.rows))
+    if wrong:
+        raise PlannerError(f"planbook's listings do not add up: state {wrong[0]} is {contrary}")
+    return sorted(set(more.rows) - set(fewer.rows))
 
 
 def ends_of(plant: Plant) -> Dict[Tuple[int, int], List[int]]:
