@@ -16,7 +16,9 @@ from typing import Dict, List, Optional, Set, Tuple
 TOP = os.path.dirname(os.path.dirname(os.path.abspath(__file__)))
 sys.path.insert(0, os.path.join(TOP, "tools"))
 
+import cost  # noqa: E402
 import facts  # noqa: E402
+import gain  # noqa: E402
 import listing  # noqa: E402
 import plant  # noqa: E402
 
@@ -522,9 +524,11 @@ class Question(Case):
                 env: Optional[Dict[str, str]] = None) -> None:
         self.fails(status, words, RUN, option, source, *masks.split(), env=env)
 
-    def kept(self, source: str, masks: List[int]) -> Set[int]:
-        """The states that the listing of these masks keeps."""
-        return kept_states(self.call(RUN, source, *(str(mask) for mask in masks))[1])
+    def kept(self, read: plant.Plant, masks: List[int]) -> Set[int]:
+        """The states that the planner's listing of these masks keeps."""
+        words = plant.to_bytes(read) + struct.pack(f"<{len(masks)}I", *masks)
+        done = subprocess.run([listing.planner()], input=words, capture_output=True, check=True)
+        return kept_states(done.stdout.decode("ascii"))
 
     def tells(self, states: Set[int], counts: str, option: str, source: str, masks: List[int]) -> None:
         """The answer lists these states, and has this line of counts."""
@@ -655,7 +659,7 @@ class Cost(Question):
         for source, read in example_plants():
             for count in (2, 2, 3, 3):
                 masks = [(1 << read.moves) - 1] + [1 << pick.randrange(read.moves) for _ in range(count - 1)]
-                before, after = self.kept(source, masks[:-1]), self.kept(source, masks)
+                before, after = self.kept(read, masks[:-1]), self.kept(read, masks)
                 self.tells(before - after, f"{len(before - after)} of {len(before)} kept states would be dropped, "
                            f"{len(after)} would stay kept", "--cost", source, masks)
                 shares.add(share(len(after), len(before)))
@@ -710,7 +714,7 @@ class Gain(Question):
             for first, out in ((everything, 1 << pick.randrange(read.moves)), (everything, pick.randint(0, everything)),
                                (pick.randint(0, everything), 0), (pick.randint(0, everything), 1)):
                 back = pick.randint(0, everything)
-                before, after = self.kept(source, [first, out]), self.kept(source, [first & ~out | back])
+                before, after = self.kept(read, [first, out]), self.kept(read, [first & ~out | back])
                 self.tells(after - before, f"{len(after - before)} of {read.states - len(before)} lost states would be "
                            f"gained, {len(after)} would then be kept", "--gain", source, [first, out, back])
                 shares.add(share(len(before), len(after)))
@@ -721,10 +725,10 @@ class Gain(Question):
         for source, read in example_plants():
             for move in range(read.moves):
                 masks = [(1 << read.moves) - 1, 1 << move]
-                _, out, _ = self.call(RUN, "--cost", source, *(str(mask) for mask in masks))
-                dropped, kept, after = (int(number) for number in re.findall(r"\d+", out.splitlines()[1]))
-                self.tells(set(states_told(out)), f"{dropped} of {read.states - after} lost states would be gained, "
-                           f"{kept} would then be kept", "--gain", source, masks + [1 << move])
+                costs, gains = cost.report(read, masks), gain.report(read, masks + [1 << move])
+                dropped, kept, after = (int(number) for number in re.findall(r"\d+", costs[1]))
+                counts = f"{dropped} of {read.states - after} lost states would be gained, {kept} would then be kept"
+                self.assertEqual(gains[1:], [counts, *costs[2:]], (source, masks))
                 shares.add(share(after, kept))
         self.assertEqual(shares, {"none", "some", "all"})
 
