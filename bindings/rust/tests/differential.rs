@@ -35,44 +35,24 @@ fn documents_01_and_02() {
     document::refusals(&Linked);
 }
 
-#[test]
-fn drop_lists_are_read_from_the_books() {
-    promises::drop_lists_are_read_from_the_books(&Linked);
+/// A test for each promise.
+macro_rules! keeps {
+    ($($promise:ident)*) => {$(
+        #[test]
+        fn $promise() {
+            promises::$promise(&Linked);
+        }
+    )*};
 }
-
-#[test]
-fn previews_come_true() {
-    promises::previews_come_true(&Linked);
-}
-
-#[test]
-fn lists_come_to_the_withdrawals_in_turn() {
-    promises::lists_come_to_the_withdrawals_in_turn(&Linked);
-}
-
-#[test]
-fn returns_undo_withdrawals() {
-    promises::returns_undo_withdrawals(&Linked);
-}
-
-#[test]
-fn returns_come_to_a_making() {
-    promises::returns_come_to_a_making(&Linked);
-}
-
-#[test]
-fn lists_of_calls_come_to_a_making() {
-    promises::lists_of_calls_come_to_a_making(&Linked);
-}
-
-#[test]
-fn good_moves_are_those_of_the_rule() {
-    promises::sets_are_those_of_the_rule(&Linked);
-}
-
-#[test]
-fn following_meets_the_goals() {
-    promises::following_meets_the_goals(&Linked);
+keeps! {
+    drop_lists_are_read_from_the_books
+    previews_come_true
+    lists_come_to_the_withdrawals_in_turn
+    returns_undo_withdrawals
+    returns_come_to_a_making
+    lists_of_calls_come_to_a_making
+    sets_are_those_of_the_rule
+    following_meets_the_goals
 }
 
 #[test]

@@ -72,7 +72,7 @@ module _ (b : List ℕ) (x : ℕ) (given : consultFault b x 0 ≡ 0) where
   is-accepted = eq-eqb _ _ given
 
   -- the state's entries are handed back
-  pub row-given : rowPart b x ≡ take (4 * bookGoals b) (drop (16 + 4 * (x * bookGoals b)) b)
+  row-given : rowPart b x ≡ take (4 * bookGoals b) (drop (16 + 4 * (x * bookGoals b)) b)
   unfolding rowPart
   row-given = rw given
 

@@ -29,13 +29,13 @@ unfolding gainedStates droppedStates
 gained-dropped b after = refl
 
 -- the book of an accepted return is right
-pub returned-right : (s b : List ℕ) (back room gained : ℕ) → returnFault s b back room gained ≡ 0
+returned-right : (s b : List ℕ) (back room gained : ℕ) → returnFault s b back room gained ≡ 0
     → Right (plantOf s) (bitOr (bookMask b) back) (Allowed (plantOf s)) (returnedBook (plantOf s) b back)
 unfolding returnedBook
 returned-right s b back room gained h = demand-2 .made s _ room (return-make s b back room gained h)
 
 -- and its list has the states kept now and not before
-pub gained-iff : (s b : List ℕ) (back room gained : ℕ) → returnFault s b back room gained ≡ 0 → (x : ℕ)
+gained-iff : (s b : List ℕ) (back room gained : ℕ) → returnFault s b back room gained ≡ 0 → (x : ℕ)
     → let after = returnedBook (plantOf s) b back in
     (isIn x (gainedStates b after) ≡ true)
     ↔ ((x < plantOf s .states) × (isLost b x ≡ true) × (isLost after x ≡ false))

@@ -54,7 +54,7 @@ same-book s b m lent whole = let e = list-book s b m lent whole in (e, ap (dropp
 
 module _ {s b m o o′ d d′ : List ℕ} {r : Answer} where
   -- a whole list is said as one withdrawal
-  pub as-one : WithdrawListSays s b m o o′ d d′ r → wholeMasks m ≡ true
+  as-one : WithdrawListSays s b m o o′ d d′ r → wholeMasks m ≡ true
       → WithdrawSays s b (unionOf (masksOf m)) o o′ d d′ r
   as-one says whole =
       record {

@@ -15,8 +15,9 @@
 //! families stands how many times as long return takes as make: the geometric mean over all families and sizes.
 //!
 //! At the end stand consult and moves for the longest plant: consult in a state that serves no goal, and in one that
-//! serves all of them (`passing`); moves in that state, which has one arrow, and in the busiest state there can be; and
-//! how many times as long as the first consult each solver takes for these.
+//! serves all of them (`passing`); `check`, a make that is refused for want of room, so that it checks the plant and no
+//! more; moves in the state that serves all goals, which has one arrow, and in the busiest state there can be; and how
+//! many times as long as the first consult each solver takes for these.
 
 use std::hint::black_box;
 use std::mem::swap;
@@ -28,7 +29,7 @@ use planbook::second::{Fast, Plain};
 
 const SIZES: [u16; 5] = [64, 128, 256, 512, 1024];
 const CALLS: [&str; 9] = ["make", "withdraw", "preview", "remake", "return", "list", "singles", "union", "consult"];
-const LOOKUPS: [&str; 4] = ["consult", "passing", "moves", "busiest"];
+const LOOKUPS: [&str; 5] = ["consult", "passing", "check", "moves", "busiest"];
 const SEED: u64 = 1;
 
 /// Runs of one call go on until they took so long in all, in nanoseconds, but are at least three.
@@ -127,7 +128,8 @@ fn measure_lists(planner: &dyn Calls, model: &Model, book: &[u8]) -> ([f64; 3], 
     ([list, singles, union], number(&out, 6))
 }
 
-/// Consult in the last state and in the first, and moves in the first and in the last, for the last goal.
+/// Consult in the last state and in the first, the check of the plant, and moves in the first state and in the last, for
+/// the last goal.
 fn measure_lookups(planner: &dyn Calls, model: &Model) -> Figures<{ LOOKUPS.len() }> {
     let plant = model.bytes();
     let (last, goal) = (model.labels.len() as u32 - 1, u32::from(model.goals) - 1);
@@ -135,7 +137,8 @@ fn measure_lookups(planner: &dyn Calls, model: &Model) -> Figures<{ LOOKUPS.len(
     accepted(planner.make(&plant, model.every_move(), &mut book).number);
     let consult = |state| least(|| accepted(black_box(planner.consult(&book, state, goal)).number));
     let moves = |state| least(|| accepted(black_box(planner.moves(&plant, &book, state, goal)).number));
-    Figures { times: [consult(last), consult(0), moves(0), moves(last)], kept: [number(&book, 6); 4] }
+    let check = least(|| assert_eq!(black_box(planner.make(&plant, model.every_move(), &mut [])).number, 7));
+    Figures { times: [consult(last), consult(0), check, moves(0), moves(last)], kept: [number(&book, 6); 5] }
 }
 
 fn accepted(number: u32) {

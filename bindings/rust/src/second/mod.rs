@@ -71,19 +71,20 @@ impl<S: Solve> Calls for S {
     }
 
     fn make(&self, plant: &[u8], mask: u32, book: &mut [u8]) -> Answer {
-        make::<S>(plant, mask, book).unwrap_or_else(|refusal| Answer::refused(refusal.number()))
+        answered(make::<S>(plant, mask, book))
     }
 
     fn withdraw(&self, plant: &[u8], book: &[u8], mask: u32, out: &mut [u8], drops: &mut [u8]) -> Answer {
-        withdraw::<S>(plant, book, mask, out, drops).unwrap_or_else(|refusal| Answer::refused(refusal.number()))
+        answered(Start::read(plant, book).and_then(|start| start.withdraw::<S>(&[mask], out, drops)))
     }
 
     fn withdraw_list(&self, plant: &[u8], book: &[u8], masks: &[u8], out: &mut [u8], drops: &mut [u8]) -> Answer {
-        withdraw_list::<S>(plant, book, masks, out, drops).unwrap_or_else(|refusal| Answer::refused(refusal.number()))
+        let withdraw = |start: Start| start.withdraw::<S>(&format::read_masks(masks)?, out, drops);
+        answered(Start::read(plant, book).and_then(withdraw))
     }
 
     fn return_moves(&self, plant: &[u8], book: &[u8], mask: u32, out: &mut [u8], gained: &mut [u8]) -> Answer {
-        return_moves::<S>(plant, book, mask, out, gained).unwrap_or_else(|refusal| Answer::refused(refusal.number()))
+        answered(Start::read(plant, book).and_then(|start| start.return_moves::<S>(mask, out, gained)))
     }
 
     fn preview(&self, plant: &[u8], book: &[u8], mask: u32, drops: &mut [u8]) -> Cost {
@@ -103,6 +104,11 @@ impl<S: Solve> Calls for S {
     }
 }
 
+/// The answer, or that of a refused call.
+fn answered(result: Result<Answer, Refusal>) -> Answer {
+    result.unwrap_or_else(|refusal| Answer::refused(refusal.number()))
+}
+
 fn make<S: Solve>(plant: &[u8], mask: u32, book: &mut [u8]) -> Result<Answer, Refusal> {
     let plant = Plant::read(plant)?;
     let length = plant.book_length();
@@ -111,37 +117,6 @@ fn make<S: Solve>(plant: &[u8], mask: u32, book: &mut [u8]) -> Result<Answer, Re
     let table = S::solve(&plant, mask, &vec![true; plant.states]);
     format::write_book(&plant, mask, &table, &mut book[..length]);
     Ok(Answer { number: 0, length: length as u32, drops: 0 })
-}
-
-fn withdraw<S: Solve>(
-    plant: &[u8],
-    book: &[u8],
-    mask: u32,
-    out: &mut [u8],
-    drops: &mut [u8],
-) -> Result<Answer, Refusal> {
-    Start::read(plant, book)?.withdraw::<S>(&[mask], out, drops)
-}
-
-fn withdraw_list<S: Solve>(
-    plant: &[u8],
-    book: &[u8],
-    masks: &[u8],
-    out: &mut [u8],
-    drops: &mut [u8],
-) -> Result<Answer, Refusal> {
-    let start = Start::read(plant, book)?;
-    start.withdraw::<S>(&format::read_masks(masks)?, out, drops)
-}
-
-fn return_moves<S: Solve>(
-    plant: &[u8],
-    book: &[u8],
-    mask: u32,
-    out: &mut [u8],
-    gained: &mut [u8],
-) -> Result<Answer, Refusal> {
-    Start::read(plant, book)?.return_moves::<S>(mask, out, gained)
 }
 
 /// Solves the plant as withdraw does, and counts the rows in place of writing them.
