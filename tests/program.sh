@@ -5,9 +5,13 @@
 set -u
 cd "$(dirname "$0")/.." || exit 1
 exec python3 - "${1:-target/bin/planbook}" <<'PYTHON'
+import os
+import shutil
 import struct
 import subprocess
 import sys
+import tempfile
+import time
 
 PROGRAM = sys.argv[1]
 results = {True: 0, False: 0}
@@ -154,6 +158,55 @@ check("every state kept", plant(*still) + masks(1 << 31), "1024 of 1024 kept, 1 
 around = (32, 8, [1] * 1023 + [511], [(x, 31, (x + 1) % 1024) for x in range(1024)])
 lines = ["%d %d %d 31\n" % (x, goal, 1023 - x) for x in range(1024) for goal in range(8)]
 check("a ring", plant(*around) + masks(1 << 31), "1024 of 1024 kept, 1 moves in service\n" + "".join(lines))
+
+
+
+def fault(name, words, **streams):
+    """The program, with streams that fail, prints nothing and says this in one line on standard error."""
+    run = subprocess.run([PROGRAM], stderr=subprocess.PIPE, check=True, **{"stdout": subprocess.PIPE, **streams})
+    right = (run.stdout or b"") == b"" and run.stderr == b"planbook: %s\n" % words
+    results[right] += 1
+    if not right:
+        print("DIFFERS: %s\n  printed  %r\n  said     %r" % (name, run.stdout, run.stderr))
+
+
+def pipe(data, blocks):
+    """The reading end of a pipe that holds these bytes and whose writing end stays open."""
+    ends = os.pipe()
+    os.write(ends[1], data)
+    os.set_blocking(ends[0], blocks)
+    return ends[0]
+
+
+# a read that fails is not the end of the input: after a plant, between masks, within one, and at once
+for name, data in [("the plant", plant(*P)), ("a mask", plant(*P) + masks(7)), ("two masks", plant(*P) + masks(7, 4)),
+                   ("a cut mask", plant(*P) + masks(7, 4)[:6]), ("no byte", b""), ("a cut plant", plant(*P)[:40])]:
+    fault("would block after " + name, b"standard input could not be read", stdin=pipe(data, False))
+fault("closed input", b"standard input could not be read", preexec_fn=lambda: os.close(0))
+folder = os.open("/", os.O_RDONLY)
+fault("a folder for input", b"standard input could not be read", stdin=folder)
+
+# nor does it matter in how many parts the input comes
+for cuts in ([1, 15, 16, 17, 60, 72, 73, 76], range(1, 80)):
+    data, ends = plant(*P) + masks(7, 4), os.pipe()
+    run = subprocess.Popen([PROGRAM], stdin=ends[0], stdout=subprocess.PIPE)
+    for one, other in zip([0, *cuts], [*cuts, len(data)]):
+        os.write(ends[1], data[one:other])
+        time.sleep(0.002)
+    os.close(ends[1])
+    same = run.communicate()[0] == SAMPLE.encode()
+    results[same] += 1
+    if not same:
+        print("DIFFERS: input in parts")
+
+# a write that fails is told
+sample = os.path.join(tempfile.mkdtemp(), "input")
+with open(sample, "wb") as file:
+    file.write(plant(*P) + masks(7))
+for name, streams in [("full output", {"stdout": open("/dev/full", "wb")}),
+                      ("closed output", {"stdout": None, "preexec_fn": lambda: os.close(1)})]:
+    fault(name, b"standard output could not be written", stdin=open(sample, "rb"), **streams)
+shutil.rmtree(os.path.dirname(sample))
 
 print("%d passed, %d failed" % (results[True], results[False]))
 sys.exit(bool(results[False]))

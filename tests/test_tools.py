@@ -68,7 +68,8 @@ class Case(unittest.TestCase):
     def few_tools(self) -> str:
         """A folder with the common tools alone: no python3, no rt, no apt-get."""
         os.mkdir(self.path("few"))
-        for tool in ("bash", "dirname", "mktemp", "rm", "wc", "tr", "od", "awk", "cat", "head", "sed", "find", "mkdir"):
+        for tool in ("bash", "dirname", "readlink", "mktemp", "rm", "wc", "tr", "od", "awk", "cat", "head", "tail",
+                     "sed", "find", "sort", "xargs", "sha256sum", "mkdir"):
             os.symlink(str(shutil.which(tool)), self.path(f"few/{tool}"))
         return self.path("few")
 
@@ -304,11 +305,14 @@ class Run(Case):
     def test_a_planner_that_says_something_else(self) -> None:
         strip = self.example("strip")
         for script, status, words in (("echo bad masks", 1, "bad masks: "), ("echo refused 4", 1, "refused 4: "),
-                                      ("exit 5", 3, "no listing (status 5)"), ("echo hello", 3, "no listing"),
-                                      (f"printf '%s' '{STRIP_LISTING}'; exit 4", 3, "ended with status 4")):
+                                      ("exit 5", 3, "ended with status 5"), ("echo hello", 3, "no listing"),
+                                      (f"printf '%s' '{STRIP_LISTING}'; exit 4", 3, "ended with status 4"),
+                                      ("echo refused 2; exit 1", 3, "ended with status 1"),
+                                      ("echo refused 2; kill -9 $$", 3, "planbook was killed by signal 9"),
+                                      (f"printf '%s' '{STRIP_LISTING}'; kill -SEGV $$", 3, "killed by signal 11"),
+                                      (f"printf '%s' '{STRIP_LISTING}'; echo planbook: worn >&2", 3, "planbook: worn")):
             env = {"PLANBOOK_BIN": self.program("planner", script)}
             self.fails(status, words, RUN, strip, "7", env=env)
-            words = words.replace("(status 5)", "").strip()
             self.fails(status, words, RUN, "--picture", self.path("out.html"), strip, "7", env=env)
             self.assertFalse(os.path.exists(self.path("out.html")))
             self.fails(status, words, RUN, "--cost", strip, "7", "1", env=env)
@@ -328,44 +332,325 @@ class Run(Case):
 class Build(Case):
     """How ./run builds the planner, in a copy of the repository's outside with a stand-in for rt."""
 
+    CRATES = b"# what it rests on\nlaws:\nrows: laws\nother: rows\nplanbook: rows io\n"
+
     def setUp(self) -> None:
         super().setUp()
-        for folder in ("top", "top/crates", "bin"):
+        for folder in ("top", "top/crates", "top/crates/rows", "bin"):
             os.mkdir(self.path(folder))
         for name in ("run", "tools", "examples"):
             subprocess.run(["cp", "-R", os.path.join(TOP, name), self.path("top")], check=True)
-        self.write("top/crates.txt", b"planbook:\n")
-        self.write("top/crates/source", b"")
+        self.write("top/crates.txt", self.CRATES)
+        self.write("top/crates/rows/source", b"")
         self.env = {"PLANBOOK_BIN": "", "PATH": self.path("bin") + os.pathsep + os.environ["PATH"]}
+        self.planner = self.path("top/target/bin/planbook")
 
     def stand_in(self, text: str) -> None:
         self.program("bin/rt", f'echo "$@" >>"{self.path("calls")}"\n{text}')
+
+    def builds(self) -> None:
+        """A stand-in that builds the planner, and says what rt says."""
+        self.stand_in("echo 'fn rows::mask: proved'; echo 'rt: laws proved (3 s)'; echo 'rt: rows proved (14 s)'\n"
+                      f'mkdir -p target/bin && cp "{os.environ["PLANBOOK_BIN"]}" target/bin/planbook\n'
+                      "echo 'rt: planbook proved (9 s)'")
 
     def calls(self) -> List[str]:
         with open(self.path("calls"), encoding="utf-8") as file:
             return file.read().splitlines()
 
+    def lists(self, calls: int) -> str:
+        """./run prints the listing of P, and has asked rt so many times by then: what it said on the way."""
+        code, out, error = self.call(self.path("top/run"), env=self.env)
+        self.assertEqual((code, out), (0, STRIP_LISTING), error)
+        self.assertEqual(self.calls(), ["check planbook"] * calls)
+        return error
+
+    def ends(self, status: int, words: str) -> None:
+        """./run prints nothing and ends with this status, and the last line that it says has these words."""
+        code, out, error = self.call(self.path("top/run"), env=self.env)
+        self.assertEqual((code, out), (status, ""), error)
+        self.assertIn(words, error.splitlines()[-1])
+        self.assertTrue(all(line.startswith("run: ") for line in error.splitlines()), error)
+
     def test_built_when_missing_or_old_and_not_again(self) -> None:
-        self.stand_in(f'mkdir -p target/bin && cp "{os.environ["PLANBOOK_BIN"]}" target/bin/planbook')
-        for calls in (1, 1):
-            self.assertEqual(self.call(self.path("top/run"), env=self.env), (0, STRIP_LISTING, ""))
-            self.assertEqual(self.calls(), ["check planbook"] * calls)
-        later = os.stat(self.path("top/target/bin/planbook")).st_mtime + 10
-        os.utime(self.path("top/crates/source"), (later, later))
-        self.assertEqual(self.call(self.path("top/run"), env=self.env), (0, STRIP_LISTING, ""))
-        self.assertEqual(len(self.calls()), 2)
+        self.builds()
+        self.lists(1)
+        self.assertEqual(self.lists(1), "")
+        source = self.path("top/crates/rows/source")
+        later = os.stat(self.planner).st_mtime + 10
+        os.utime(source, (later, later))
+        self.assertEqual(self.lists(1), "")  # times of files do not count
+        self.write("top/crates/rows/source", b"more")
+        os.utime(source, (1, 1))
+        self.lists(2)
+        os.rename(source, source + "s")
+        self.lists(3)
+        with open(self.planner, "ab") as file:
+            file.write(b"\0")  # another planner than the one that was built
+        self.lists(4)
+        self.write("top/crates.txt", self.CRATES + b"new:\n")
+        self.lists(5)
+        self.assertEqual(self.lists(5), "")
+
+    def test_edits_that_must_fail_are_no_sources(self) -> None:
+        self.builds()
+        self.lists(1)
+        os.mkdir(self.path("top/crates/rows/must-fail"))
+        self.write("top/crates/rows/must-fail/a.edit", b"")
+        self.assertEqual(self.lists(1), "")
+
+    def test_progress_is_told(self) -> None:
+        self.builds()
+        lines = self.lists(1).splitlines()
+        self.assertRegex(lines[0], "^run: proving and building planbook; this takes .* minutes")
+        self.assertEqual(lines[1:], ["run: 1 of 3 proved: laws", "run: 2 of 3 proved: rows",
+                                     "run: 3 of 3 proved: planbook"])
+        self.write("top/crates/rows/source", b"more")
+        self.stand_in("echo 'rt: laws proved (unchanged since it was last proved)'; echo 'rt: rows proved (1 s)'")
+        self.assertEqual(self.lists(2).splitlines()[1:], ["run: 2 of 3 proved: rows"])
+
+    def test_progress_is_told_at_once(self) -> None:
+        # The stand-in goes on only when the line about its first crate was read.
+        os.mkfifo(self.path("go"))
+        self.stand_in(f"echo 'rt: laws proved (3 s)'; cat {self.path('go')}\n"
+                      f'mkdir -p target/bin && cp "{os.environ["PLANBOOK_BIN"]}" target/bin/planbook')
+        with subprocess.Popen([self.path("top/run")], stdout=subprocess.PIPE, stderr=subprocess.PIPE, text=True,
+                              env={**os.environ, **self.env}) as running:
+            assert running.stderr is not None and running.stdout is not None
+            running.stderr.readline()
+            self.assertEqual(running.stderr.readline(), "run: 1 of 3 proved: laws\n")
+            self.write("go", b"")
+            self.assertEqual(running.stdout.read(), STRIP_LISTING)
 
     def test_no_toolchain(self) -> None:
+        self.builds()
+        built = {**self.env, "PATH": self.few_tools()}
         source = self.write("a.bin", plant.to_bytes(plant.from_text("t", SMALL.encode())))
-        env = {"PLANBOOK_BIN": "", "PATH": self.few_tools()}
         call = [self.path("few/bash"), self.path("top/run"), source, "1"]
-        self.fails(3, "rt (the Rattle toolchain) is not on the PATH", *call, env=env)
+        error = self.fails(3, "planbook is not built, and rt (the Rattle toolchain) is not on the PATH", *call,
+                           env=built)
+        self.assertNotIn("PLANBOOK_BIN", error)
+        self.lists(1)
+        self.assertEqual(self.call(*call, env=built)[0], 0)
+        self.write("top/crates/rows/source", b"more")
+        self.fails(3, "target/bin/planbook was not built from the sources that are here now, and rt (the Rattle "
+                   "toolchain) is not on the PATH to prove and build it; to use it all the same, set "
+                   f"PLANBOOK_BIN={self.planner}", *call, env=built)
+        self.assertEqual(self.call(*call, env={**built, "PLANBOOK_BIN": self.planner})[0], 0)
 
     def test_a_build_that_fails(self) -> None:
         self.stand_in("exit 1")
-        self.fails(3, "planbook could not be built", self.path("top/run"), env=self.env)
+        self.ends(3, "planbook could not be built; target/run-build.log has the reason")
+        self.stand_in("kill -9 $$")
+        self.ends(3, "planbook could not be built; target/run-build.log has the reason")
         self.stand_in("exit 0")
-        self.fails(3, "rt built no planbook", self.path("top/run"), env=self.env)
+        self.ends(3, "rt built no planbook")
+
+    def test_a_folder_that_cannot_be_written(self) -> None:
+        self.builds()
+        self.write("top/target", b"")
+        self.ends(3, f"planbook is not built, and it cannot be built here: {self.path('top/target')} cannot be written")
+
+    def test_a_clone_that_is_read_only(self) -> None:
+        # As nobody, since root may write everywhere.
+        if os.geteuid() != 0 or not shutil.which("setpriv"):
+            self.skipTest("only root can become nobody, with setpriv")
+        for folder, _, files in os.walk(self.folder):
+            for name in [folder] + [os.path.join(folder, file) for file in files]:
+                os.chmod(name, os.stat(name).st_mode | 0o55)
+        shutil.copy(os.environ["PLANBOOK_BIN"], self.path("planner"))
+        nobody = ["setpriv", "--reuid=65534", "--regid=65534", "--clear-groups"]
+        self.builds()
+        self.fails(3, "top/target cannot be written", *nobody, self.path("top/run"), env=self.env)
+        env = {**self.env, "PLANBOOK_BIN": self.path("planner")}
+        self.assertEqual(self.call(*nobody, self.path("top/run"), env=env), (0, STRIP_LISTING, ""))
+
+    def test_by_a_symbolic_link(self) -> None:
+        self.builds()
+        os.symlink("top/run", self.path("one"))
+        os.symlink(self.path("one"), self.path("bin/two"))
+        for name in ("one", "bin/two"):
+            self.assertEqual(self.call(self.path(name), env=self.env)[:2], (0, STRIP_LISTING))
+        self.assertEqual(self.calls(), ["check planbook"])
+
+    def test_nothing_is_installed(self) -> None:
+        few = self.few_tools()
+        self.program("few/apt-get", f'echo "$@" >>"{self.path("installed")}"')
+        os.symlink(str(shutil.which("id")), self.path("few/id"))
+        env = {"PATH": few}
+        call = [self.path("few/bash"), self.path("top/run"), self.example("strip"), "7"]
+        self.fails(3, "python3 is needed for plants in the text form, and is not on the PATH", *call, env=env)
+        self.assertFalse(os.path.exists(self.path("installed")))
+
+
+# A plant whose listing is longer than 60 KiB: every state kept for 8 goals.
+LONG = plant.Plant(1024, 1, 8, [511] * 1024, [(state, 0, state) for state in range(1024)])
+
+
+class Machine(Case):
+    """Faults of the machine: status 3 and one line, and no answer that could be taken for whole."""
+
+    # No stream is set to UTF-8 behind Python's back.
+    ASCII = {"LC_ALL": "C", "PYTHONUTF8": "0", "PYTHONCOERCECLOCALE": "0"}
+
+    def shell(self, script: str, *words: str, env: Optional[Dict[str, str]] = None) -> Tuple[int, str, str]:
+        """What a call that the script makes of these words gives."""
+        return self.call("bash", "-c", script, "bash", *words, env=env)
+
+    def breaks(self, words: str, script: str, *call: str, env: Optional[Dict[str, str]] = None) -> None:
+        """As `fails` with status 3, of a call in a script."""
+        self.fails(3, words, "bash", "-c", script, *call, env=env)
+
+    def questions(self) -> List[List[str]]:
+        strip = self.example("strip")
+        return [[RUN], [RUN, "--help"], [RUN, "--picture", "-", strip, "7"], [RUN, "--cost", strip, "7", "1"],
+                [RUN, "--gain", strip, "7", "1", "1"]]
+
+    def long_plant(self) -> str:
+        return self.write("long.bin", plant.to_bytes(LONG))
+
+    def test_a_file_that_may_not_grow(self) -> None:
+        for ignored in ("trap '' XFSZ; ", ""):
+            self.breaks("planbook", ignored + 'ulimit -f 60; exec "$0" "$@"', RUN, self.long_plant(), "1")
+        for limit, words in (("0", "is full or cannot be written"), ("1", "is full or cannot be written")):
+            self.breaks(words, f'ulimit -f {limit}; exec "$0" "$@"', RUN, self.long_plant(), "1")
+        text = self.write("long.plant", plant.to_text(LONG).encode())
+        self.breaks("cannot be written", 'ulimit -f 1; exec "$0" "$@"', RUN, text, "1")
+        code, out, _ = self.call(RUN, self.long_plant(), "1")
+        self.assertEqual((code, out.count("\n")), (0, 8193))
+
+    def test_listings_that_are_not_whole(self) -> None:
+        lines = STRIP_LISTING.splitlines(keepends=True)
+        torn = ["".join(lines[:count]) for count in range(1, len(lines))]
+        torn += [STRIP_LISTING[:-1], STRIP_LISTING[:-3], STRIP_LISTING + "4 lost\n", "".join(lines[:2] + lines[3:]),
+                 "".join([lines[0], lines[2], lines[1]] + lines[3:]), STRIP_LISTING.replace("3 of", "2 of"),
+                 STRIP_LISTING.replace("of 4", "of 5"), STRIP_LISTING.replace("2 0 1 0", "2 0 1 x")]
+        for text in torn:
+            env = {"PLANBOOK_BIN": self.program("planner", f"printf '%s' '{text}'")}
+            self.fails(3, "planbook's listing is not whole", RUN, self.example("strip"), "7", "4", env=env)
+
+    def test_standard_output_full_closed_or_left(self) -> None:
+        for call in self.questions():
+            for script in ('exec "$0" "$@" >/dev/full', 'exec "$0" "$@" >&-',
+                           'trap "" PIPE; "$0" "$@" | true; exit ${PIPESTATUS[0]}',
+                           '"$0" "$@" | true; exit ${PIPESTATUS[0]}'):
+                self.breaks("run: standard output could not be written", script, *call)
+        # Much is read, and then no more.
+        script = '"$0" "$@" | head -n 3; exit ${PIPESTATUS[0]}'
+        code, out, error = self.shell(script.replace("$0", RUN), self.long_plant(), "1")
+        self.assertEqual((code, out.count("\n"), error.count("\n")), (3, 3, 1), error)
+
+    def test_standard_error_closed_or_full(self) -> None:
+        strip = self.example("strip")
+        for script in ('exec "$@" 2>&-', 'exec "$@" 2>/dev/full', 'exec "$@" <&- 2>&-'):
+            self.assertEqual(self.shell(script, RUN), (0, STRIP_LISTING, ""))
+            for status, words in ((1, [RUN, strip, "8"]), (2, [RUN, strip, "x"]), (2, [RUN, "none", "7"]),
+                                  (1, [RUN, "--cost", strip, "7", "8"]), (2, [PLANT_PY, "check", "none"]),
+                                  (2, [COST_PY]), (1, [COST_PY, strip, "7", "8"])):
+                self.assertEqual(self.shell(script, *words), (status, "", ""), words)
+            self.assertEqual(self.shell(script + " >&-", RUN), (3, "", ""))
+        # Its reader is gone when the error is said.
+        script = 'exec 3>&1; { sleep 0.1; "$@" 2>&1 >/dev/null; echo $? >&3; } | true'
+        self.assertEqual(self.shell(script, RUN, strip, "x")[1], "2\n")
+
+    def test_temporary_folder(self) -> None:
+        for folder in (self.path("none"), "/proc", self.example("strip")):
+            for call in ([RUN], [RUN, "--cost", self.example("strip"), "7", "1"]):
+                self.fails(3, f"no temporary folder can be made in {folder}", *call, env={"TMPDIR": folder})
+        self.assertEqual(self.call(RUN, "--help", env={"TMPDIR": self.path("none")})[0], 0)
+        os.mkdir(self.path("temporary"))
+        self.assertEqual(self.call(RUN, env={"TMPDIR": self.path("temporary")})[0], 0)
+        self.assertEqual(os.listdir(self.path("temporary")), [])  # and it is left as it was
+
+    def test_python_that_cannot_run(self) -> None:
+        strip, bytes_ = self.example("strip"), self.write("a.bin", plant.to_bytes(LONG))
+        os.mkdir(self.path("bin"))
+        env = {"PATH": self.path("bin") + os.pathsep + os.environ["PATH"]}
+        for script in ("exit 0", "exit 1", "exit 127", "kill -9 $$", "echo Fatal error >&2; exit 2"):
+            self.program("bin/python3", script)
+            for call in ([RUN, strip, "7"], [RUN, "--cost", bytes_, "1", "1"]):
+                self.fails(3, "the one on the PATH cannot run", *call, env=env)
+        self.assertEqual(self.call(RUN, bytes_, "1", env=env)[0], 0)  # bytes need none
+        for script in ("exit 1", "echo a >&2; echo b >&2; exit 2", "kill -9 $$", "exit 77"):
+            self.program("bin/python3", f'[ "$1" != -c ] || exec {sys.executable} "$@"\n{script}')
+            self.fails(3, "python3 could not run tools/plant.py", RUN, strip, "7", env=env)
+            self.fails(3, "python3 could not run tools/cost.py", RUN, "--cost", bytes_, "1", "1", env=env)
+
+    def test_a_planner_that_cannot_be_run(self) -> None:
+        path = self.write("planner", b"\x7fELF\0\0")
+        os.chmod(path, 0o755)
+        for call in ([RUN], [RUN, "--cost", self.example("strip"), "7", "1"]):
+            self.fails(3, "planbook could not be run", *call, env={"PLANBOOK_BIN": path})
+
+    def test_tools_say_one_line(self) -> None:
+        strip, text = self.example("strip"), self.write("bad\n.plant", b"x")
+        scripts = ('exec "$0" "$@" >/dev/full', 'exec "$0" "$@" >&-', '"$0" "$@" | true; exit ${PIPESTATUS[0]}')
+        for env, used in (({}, scripts), ({"PYTHONUNBUFFERED": "1"}, scripts[:1]), (self.ASCII, scripts[1:2])):
+            for call in ([PLANT_PY, "check", strip], [PLANT_PY, "--help"], [PLANT_PY, "encode", strip, "-"],
+                         [COST_PY, strip, "7", "1"], [PICTURE_PY, "-", strip, "7"], [GAIN_PY, "-h"]):
+                for script in used:
+                    self.breaks("standard output could not be written", script, *call, env=env)
+            for call in ([PLANT_PY, "check", text], [COST_PY, text, "7", "1"], [RUN, text, "7"],
+                         [RUN, "--picture", "-", text, "7"]):
+                self.fails(2, "bad?.plant:1: the first line is", *call, env=env)
+
+    def test_files_that_cannot_be_written(self) -> None:
+        strip = self.example("strip")
+        for call in ([PLANT_PY, "encode", strip, "/proc/a.bin"], [PICTURE_PY, "/proc/a.html", strip, "7"],
+                     [RUN, "--picture", "/proc/a.html", strip, "7"]):
+            self.fails(2, "cannot be written", *call)  # no such folder
+        long = self.write("a.plant", plant.to_text(LONG).encode())
+        self.breaks("cannot be written (File too large)", 'ulimit -f 1; exec "$0" "$@"', PLANT_PY, "encode", long,
+                    self.path("out.bin"))
+        self.assertEqual(os.listdir(self.folder), ["a.plant"])
+
+    def test_names_that_are_no_utf8(self) -> None:
+        with open(self.example("strip"), "rb") as file:
+            text = file.read()
+        name = os.fsdecode(self.folder.encode() + b"/caf\xe9 \xc3\xa9.plant")
+        with open(name, "wb") as file:
+            file.write(text)
+        for env in ({}, self.ASCII):
+            self.assertEqual(self.call(RUN, name, "7", "4", env=env), (0, STRIP_LISTING, ""))
+            self.assertEqual(self.call(RUN, "--cost", name, "7", "1", env=env)[0], 0)
+            code, out, error = self.call(RUN, "--picture", "-", name, "7", env=env)
+            self.assertEqual((code, error), (0, ""))
+            self.assertIn("<title>Control book: caf\ufffd \xe9.plant</title>", out)
+            done = subprocess.run([PLANT_PY, "check", name], capture_output=True, check=True,
+                                  env={**os.environ, **env})
+            self.assertTrue(done.stdout.startswith(os.fsencode(name) + b": good"), done.stdout)
+            self.fails(2, "is no mask", RUN, name, "x", env=env)
+
+    def test_utf16_is_named(self) -> None:
+        with open(self.example("strip"), encoding="utf-8") as file:
+            text = file.read()
+        for code in ("utf-16", "utf-16-le", "utf-16-be"):
+            path = self.write("a.plant", text.encode(code))
+            for call in ([RUN, path, "7"], [RUN, "--cost", path, "7", "1"], [PLANT_PY, "check", path],
+                         [PLANT_PY, "encode", path, self.path("out.bin")]):
+                self.fails(2, "a.plant:1: the text is UTF-16; save it as UTF-8", *call)
+        # Bytes that look alike but for one number are a plant: S 35, U 32 and N 8 are no three letters.
+        like = plant.Plant(35, 32, 8, [1] * 35, [])
+        path = self.write("a", plant.to_bytes(like))
+        self.assertTrue(self.call(RUN, path, "1")[1].startswith("0 of 35 kept"))
+        self.assertEqual(self.call(PLANT_PY, "check", path)[0], 0)
+
+    def test_standard_input(self) -> None:
+        strip = self.example("strip")
+        data = self.write("a.bin", plant.to_bytes(plant.read_plant(strip)))
+        for source in (strip, data):
+            self.assertEqual(self.shell(f'"$@" <"{source}"', RUN, "-", "7", "4"), (0, STRIP_LISTING, ""))
+            self.assertEqual(self.shell(f'cat "{source}" | "$@"', RUN, "--cost", "-", "7", "1"),
+                             (0, strip_cost("move 0", 3, 3, 0), ""))
+            self.assertEqual(self.shell(f'"$@" <"{source}"', PLANT_PY, "check", "-")[:1], (0,))
+        code, out, _ = self.shell(f'"$@" <"{strip}"', RUN, "--picture", "-", "-", "7")
+        self.assertEqual(code, 0)
+        self.assertIn("<title>Control book: standard input</title>", out)
+        self.fails(2, "standard input:1: the file has no line", "bash", "-c", '"$0" "$@" </dev/null', RUN, "-", "7")
+        self.fails(2, "the file is longer than any plant", "bash", "-c", '"$0" "$@" < <(yes "#")', RUN, "-", "7")
+        for script in ('"$0" "$@" <&-', '"$0" "$@" </'):
+            self.breaks("standard input could not be read", script, RUN, "-", "7")
+        self.breaks("standard input: cannot be read", '"$0" "$@" <&-', PLANT_PY, "check", "-")
 
 
 class Picture(Case):
@@ -447,8 +732,17 @@ class Picture(Case):
         self.fails(2, "at least one mask", RUN, "--picture", out, strip)
         self.fails(1, "refused 6: ", RUN, "--picture", out, strip, "8")
         self.fails(2, "bad.plant:1: ", RUN, "--picture", out, self.write("bad.plant", b"x"), "7")
-        self.fails(2, "is the plant", RUN, "--picture", strip, strip, "7")
+        for name in (strip, self.path("out"), self.path("out.html.txt"), ""):
+            self.fails(2, "a picture's name ends in .html", RUN, "--picture", name, strip, "7")
+            self.fails(2, "a picture's name ends in .html", PICTURE_PY, name, strip, "7")
         self.assertEqual(os.listdir(self.folder), ["bad.plant"])
+        with open(strip, "rb") as file:
+            copy = self.write("plant.html", file.read())
+        self.fails(2, "is the plant", RUN, "--picture", copy, copy, "7")
+
+    def test_standard_output(self) -> None:
+        text, _ = self.draw(self.example("lockout"), "0x1f", "0x1c")
+        self.assertEqual(self.call(RUN, "--picture", "-", self.example("lockout"), "0x1f", "0x1c"), (0, text, ""))
 
 
 # The drive side cylinder takes part in moves 2, 3 and 4 of examples/lockout.plant. What taking it out costs, and what

@@ -10,5 +10,7 @@ if [ ! -x "$PLANBOOK_BIN" ]; then
     exit 3
 fi
 PLANBOOK_BIN=$(realpath "$PLANBOOK_BIN")
-export PLANBOOK_BIN PYTHONDONTWRITEBYTECODE=1
+# The interpreter itself: one that is chosen anew by a wrapper at each start would take most of the time.
+PATH=$(python3 -c 'import os, sys; print(os.path.dirname(sys.executable))'):$PATH
+export PATH PLANBOOK_BIN PYTHONDONTWRITEBYTECODE=1
 exec python3 tests/test_tools.py

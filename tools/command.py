@@ -1,10 +1,10 @@
 """What the commands that ask planbook have in common: their help, their masks, and how an answer or error is said."""
 from __future__ import annotations
 
-import sys
 from typing import Callable, List, Optional, Sequence
 
-from listing import MAX_MASKS, PlannerError, Refused, mask_from
+from console import complain, run, say
+from listing import MAX_MASKS, mask_from
 from plant import Plant, PlantError, read_plant
 
 
@@ -23,13 +23,11 @@ def masks_from(words: Sequence[str]) -> List[int]:
 
 def run_report(text: Optional[str], report: Callable[[Plant, List[int]], List[str]], words: List[str]) -> int:
     """Prints the lines of a report on a plant and two or more masks, and gives the exit status."""
-    def say(source: str, *last: str) -> None:
+    def work(source: str, *last: str) -> None:
         masks = masks_from(last)
-        lines = report(read_plant(source), masks)
-        # In UTF-8, as a plant's names are written, whatever the terminal is set to.
-        sys.stdout.buffer.write("".join(f"{line}\n" for line in lines).encode())
+        say("".join(f"{line}\n" for line in report(read_plant(source), masks)))
 
-    return run_command(text, 3, say, words)
+    return run_command(text, 3, work, words)
 
 
 def run_command(text: Optional[str], least: int, work: Callable[..., None], words: List[str]) -> int:
@@ -37,14 +35,8 @@ def run_command(text: Optional[str], least: int, work: Callable[..., None], word
     # The text is the command's help, and has the call on its third line.
     lines = (text or "").strip().splitlines()
     if words in (["-h"], ["--help"]):
-        print("\n".join(lines))
-        return 0
+        return run(lambda: say("\n".join(lines) + "\n"))
     if len(words) < least:
-        print(f"usage: {lines[2].strip()}", file=sys.stderr)
+        complain(f"usage: {lines[2].strip()}")
         return 2
-    try:
-        work(*words)
-    except (PlantError, Refused, PlannerError) as error:
-        print(error, file=sys.stderr)
-        return {Refused: 1, PlantError: 2, PlannerError: 3}[type(error)]
-    return 0
+    return run(lambda: work(*words))

@@ -3,9 +3,9 @@
 
     cost.py PLANT MASK [MASK...] MASK
 
-PLANT is a plant file in either form; masks are decimal or 0x hex. The first mask is the moves in service, each further
-one is withdrawn in turn. The last one is the lock-out: it is looked at and not done. All facts come from planbook's
-listings: one without the last mask, one with it.
+PLANT is a plant file in either form, or - for standard input; masks are decimal or 0x hex. The first mask is the moves
+in service, each further one is withdrawn in turn. The last one is the lock-out: it is looked at and not done. All facts
+come from planbook's listings: one without the last mask, one with it.
 """
 from __future__ import annotations
 

@@ -3,9 +3,10 @@
 
     gain.py PLANT MASK [MASK...] MASK
 
-PLANT is a plant file in either form; masks are decimal or 0x hex. The first mask is the moves in service, each further
-one but the last is withdrawn in turn. The last one is the moves that come back: it is looked at and not done. All facts
-come from planbook's listings: one without the last mask, one made with the moves in service and those that come back.
+PLANT is a plant file in either form, or - for standard input; masks are decimal or 0x hex. The first mask is the moves
+in service, each further one but the last is withdrawn in turn. The last one is the moves that come back: it is looked
+at and not done. All facts come from planbook's listings: one without the last mask, one made with the moves in service
+and those that come back.
 """
 from __future__ import annotations
 

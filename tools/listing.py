@@ -9,6 +9,7 @@ import subprocess
 from dataclasses import dataclass
 from typing import Dict, List, Optional, Sequence, Tuple
 
+from console import Failure, MachineError
 from plant import Plant, to_bytes
 
 TOP = os.path.dirname(os.path.dirname(os.path.abspath(__file__)))
@@ -16,11 +17,13 @@ MAX_MASKS = 16
 TIME_LIMIT = 600  # seconds; the largest plant takes far less
 
 
-class Refused(Exception):
+class Refused(Failure):
     """The planner refused: its number, and what that means."""
 
+    status = 1
 
-class PlannerError(Exception):
+
+class PlannerError(MachineError):
     """The planner is missing, or did not print what it should."""
 
 
@@ -70,18 +73,30 @@ def book(plant: Plant, masks: List[int]) -> Book:
         done = subprocess.run([planner()], input=words, capture_output=True, timeout=TIME_LIMIT, check=False)
     except (OSError, subprocess.TimeoutExpired):
         raise PlannerError("planbook could not be run") from None
-    lines = done.stdout.decode("ascii", "replace").splitlines()
+    check_ending(done.returncode, done.stderr)
+    text = done.stdout.decode("ascii", "replace")
+    lines = text.splitlines()
     first = lines[0] if lines else ""
     if first == "bad masks":
         raise Refused(f"bad masks: planbook takes 1 to {MAX_MASKS} whole masks after the plant")
     if first.startswith("refused "):
         raise Refused(f"{first}: {meaning(first.split()[1])}")
+    if not text.endswith("\n"):
+        raise PlannerError("planbook's listing is not whole")
     found = parsed(plant, lines)
-    if done.returncode != 0:
-        raise PlannerError(f"planbook ended with status {done.returncode}")
     if bin(service(masks)).count("1") != found.in_service:
         raise PlannerError("planbook counts other moves in service than these masks leave")
     return found
+
+
+def check_ending(status: int, errors: bytes) -> None:
+    """A planner that was killed, ended otherwise than it should or complained has printed nothing to rely on."""
+    if status < 0:
+        raise PlannerError(f"planbook was killed by signal {-status}")
+    if status > 0:
+        raise PlannerError(f"planbook could not be run: it ended with status {status}")
+    if errors:
+        raise PlannerError(errors.decode("utf-8", "replace").splitlines()[0])
 
 
 def meaning(number: str) -> str:

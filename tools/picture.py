@@ -3,8 +3,9 @@
 
     picture.py OUT.html PLANT MASK [MASK...]
 
-PLANT is a plant file in either form; masks are decimal or 0x hex. The first mask makes the book, each further one
-withdraws moves. All facts about the book come from planbook's listings: one with the first mask, one with all masks.
+OUT.html may be - for standard output. PLANT is a plant file in either form, or - for standard input; masks are decimal
+or 0x hex. The first mask makes the book, each further one withdraws moves. All facts about the book come from
+planbook's listings: one with the first mask, one with all masks.
 """
 from __future__ import annotations
 
@@ -17,7 +18,7 @@ from command import masks_from, run_command
 from drawing import FEW, Diagram, grid, markers
 from facts import DROPPED, KEPT, LOST, NOT_ALLOWED, Facts, gather, move_list, ranges
 from listing import service
-from plant import PlantError, read_plant, write_file
+from plant import PlantError, read_plant, shown_name, write_file
 
 # Plants with more than this are shown as a grid of cells.
 DIAGRAM_STATES = 60
@@ -164,9 +165,13 @@ def table_entry(facts: Facts, state: int, goal: int) -> str:
 
 def draw(out: str, source: str, *words: str) -> None:
     masks = masks_from(words)
-    if os.path.realpath(out) == os.path.realpath(source):
+    if out != "-" and not out.endswith(".html"):
+        raise PlantError(f"{out}: a picture's name ends in .html, or is - for standard output")
+    if out != "-" and os.path.realpath(out) == os.path.realpath(source):
         raise PlantError(f"{out}: is the plant; give another name for the picture")
-    facts = gather(os.path.basename(source), read_plant(source), masks)
+    # A file's name need not be text.
+    title = os.fsencode(os.path.basename(shown_name(source))).decode("utf-8", "replace")
+    facts = gather(title, read_plant(source), masks)
     write_file(out, page(facts).encode())
 
 

@@ -5,17 +5,20 @@
     plant.py decode IN.bin OUT.txt    bytes to text
     plant.py check IN                 say whether IN (text or bytes) is a good plant
 
-docs/USING.md describes the text form. A plant that breaks a rule gets one line on standard error and exit status 2;
-nothing is written then.
+docs/USING.md describes the text form. IN or OUT may be -, for standard input or output. A plant that breaks a rule gets
+one line on standard error and exit status 2, a fault of the machine one line and 3; nothing is written then.
 """
 from __future__ import annotations
 
+import errno
 import os
 import re
 import struct
 import sys
 from dataclasses import dataclass, field
 from typing import Callable, Dict, List, NoReturn, Optional, Tuple
+
+from console import Failure, MachineError, complain, run, say, say_bytes
 
 Arrow = Tuple[int, int, int]  # from, move, to
 
@@ -30,8 +33,14 @@ HEADER = struct.Struct("<8H")
 ARROW = struct.Struct("<3H")
 
 
-class PlantError(Exception):
+# Errors of the file's name that was given, and not of the machine.
+NAME_ERRORS = (errno.ENOENT, errno.ENOTDIR, errno.EISDIR, errno.ENAMETOOLONG, errno.ELOOP)
+
+
+class PlantError(Failure):
     """A file that is no plant: the message says where and why, in one line."""
+
+    status = 2
 
 
 @dataclass
@@ -246,9 +255,11 @@ class TextReader:
 
 def from_text(path: str, data: bytes) -> Plant:
     """The plant of a text file's content."""
+    if is_utf16(data):
+        raise PlantError(f"{path}:1: the text is UTF-16; save it as UTF-8")
     if b"\0" in data:
         number = data.count(b"\n", 0, data.index(b"\0")) + 1
-        raise PlantError(f"{path}:{number}: this is no text, it has a zero byte (a plant's bytes, or UTF-16)")
+        raise PlantError(f"{path}:{number}: this is no text, it has a zero byte (is it a plant's bytes?)")
     try:
         text = data.decode("utf-8-sig")
     except UnicodeDecodeError as error:
@@ -350,30 +361,53 @@ def refuse(path: str, number: int, reason: str) -> NoReturn:
 # Files.
 
 
+def shown_name(path: str) -> str:
+    """How a file is called in errors."""
+    return "standard input" if path == "-" else path
+
+
+def is_utf16(data: bytes) -> bool:
+    """A byte order mark, or every second byte 0. No plant's bytes begin so: S would be above 1,024, or N above 8."""
+    if data[:2] in (b"\xff\xfe", b"\xfe\xff"):
+        return True
+    even, odd = data[0:6:2], data[1:6:2]
+    return any(zeros == bytes(3) and len(letters) == 3 and min(letters) > 8
+               for zeros, letters in ((even, odd), (odd, even)))
+
+
 def is_binary(path: str, data: bytes) -> bool:
-    """Bytes rather than text: by the file's ending, or by a zero byte (each header has one, no text does)."""
-    return path.endswith(".bin") or b"\0" in data
+    """Bytes rather than text: by the file's ending, or by a zero byte (each header has one, no text in UTF-8 does)."""
+    return path.endswith(".bin") or (b"\0" in data and not is_utf16(data))
 
 
 def read_file(path: str) -> bytes:
     try:
-        with open(path, "rb") as file:
+        with open(0 if path == "-" else path, "rb", closefd=path != "-") as file:
             data = file.read(MAX_FILE + 1)
     except OSError as error:
-        raise PlantError(f"{path}: cannot be read ({error.strerror})") from None
+        raise sort_of(error, errno.EACCES)(f"{shown_name(path)}: cannot be read ({error.strerror})") from None
     if len(data) > MAX_FILE:
-        raise PlantError(f"{path}: the file is longer than any plant needs ({MAX_FILE} bytes)")
+        raise PlantError(f"{shown_name(path)}: the file is longer than any plant needs ({MAX_FILE} bytes)")
     return data
+
+
+def sort_of(error: OSError, *more: int) -> Callable[[str], Failure]:
+    """Whether an error is one of the name that was given, or of these sorts, or else of the machine."""
+    return PlantError if error.errno in NAME_ERRORS + more else MachineError
 
 
 def read_plant(path: str) -> Plant:
     """The plant of a file in either form."""
     data = read_file(path)
-    return from_bytes(path, data) if is_binary(path, data) else from_text(path, data)
+    read = from_bytes if is_binary(path, data) else from_text
+    return read(shown_name(path), data)
 
 
 def write_file(path: str, data: bytes) -> None:
     """Writes the whole file or nothing: to a temporary neighbour first, which then takes its name."""
+    if path == "-":
+        say_bytes(data)
+        return
     target = os.path.realpath(path)
     if os.path.exists(target) and not os.path.isfile(target):
         raise PlantError(f"{path}: is not an ordinary file, so it is not overwritten")
@@ -383,30 +417,31 @@ def write_file(path: str, data: bytes) -> None:
             file.write(data)
         os.replace(temporary, target)
     except OSError as error:
-        if os.path.exists(temporary):
+        try:
             os.remove(temporary)
-        raise PlantError(f"{path}: cannot be written ({error.strerror})") from None
+        except OSError:
+            pass
+        raise sort_of(error)(f"{path}: cannot be written ({error.strerror})") from None
 
 
 # The commands.
 
 
 def encode(source: str, target: str) -> None:
-    write_file(target, to_bytes(from_text(source, read_file(source))))
+    write_file(target, to_bytes(from_text(shown_name(source), read_file(source))))
 
 
 def decode(source: str, target: str) -> None:
-    write_file(target, to_text(from_bytes(source, read_file(source))).encode())
+    write_file(target, to_text(from_bytes(shown_name(source), read_file(source))).encode())
 
 
 def check(source: str) -> None:
     """Prints the plant's size, and what is likely a slip though it breaks no rule."""
     plant = read_plant(source)
     allowed = sum(plant.allowed(state) for state in range(plant.states))
-    print(f"{source}: good: {plant.states} states ({allowed} allowed), {plant.moves} moves, "
-          f"{plant.goals} goals, {len(plant.arrows)} arrows")
-    for note in notes(plant):
-        print(f"{source}: note: {note}")
+    lines = [f"good: {plant.states} states ({allowed} allowed), {plant.moves} moves, {plant.goals} goals, "
+             f"{len(plant.arrows)} arrows"] + [f"note: {note}" for note in notes(plant)]
+    say("".join(f"{shown_name(source)}: {line}\n" for line in lines))
 
 
 def notes(plant: Plant) -> List[str]:
@@ -427,23 +462,21 @@ def main(words: List[str]) -> int:
     commands: Dict[str, Tuple[Callable[..., None], int]]
     commands = {"encode": (encode, 2), "decode": (decode, 2), "check": (check, 1)}
     if words in (["-h"], ["--help"]):
-        print((__doc__ or "").strip())
-        return 0
+        return run(lambda: say((__doc__ or "").strip() + "\n"))
     if not words or words[0] not in commands or len(words) - 1 != commands[words[0]][1]:
-        print("usage: plant.py encode IN.txt OUT.bin | decode IN.bin OUT.txt | check IN", file=sys.stderr)
+        complain("usage: plant.py encode IN.txt OUT.bin | decode IN.bin OUT.txt | check IN")
         return 2
-    try:
+
+    def work() -> None:
         same_file(words[1:])
         commands[words[0]][0](*words[1:])
-    except PlantError as error:
-        print(error, file=sys.stderr)
-        return 2
-    return 0
+
+    return run(work)
 
 
 def same_file(paths: List[str]) -> None:
     """A conversion onto its own source would lose it."""
-    if len(paths) == 2 and os.path.realpath(paths[0]) == os.path.realpath(paths[1]):
+    if len(paths) == 2 and "-" not in paths and os.path.realpath(paths[0]) == os.path.realpath(paths[1]):
         raise PlantError(f"{paths[1]}: is the file to read from; give another name to write to")
 
 

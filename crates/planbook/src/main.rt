@@ -1,5 +1,8 @@
-// The program `planbook`: reads a plant and its masks from standard input, and prints the last book or a refusal.
-use libc::STDIN_FILENO;
+// The program `planbook`: reads a plant and its masks from standard input, and prints the last book or a refusal. Where
+// a read or a write fails it says so in a line on standard error; after a failed read it prints nothing else.
+mod input;
+
+use libc::STDERR_FILENO;
 use libc::STDOUT_FILENO;
 ghost use mathlib.Core.Path.{_≡_};
 ghost use lib.ListN.{length};
@@ -19,10 +22,28 @@ fn output_buffer() -> [u8; 200000]
     [0; 200000]
 }
 
+// Answers an input that was read to its end.
+fn answer(input: &[u8]) {
+    let mut out = output_buffer();
+    let long = reply::reply(input, &mut out) as usize;
+    if !io::write_all(STDOUT_FILENO, &out[..long]) {
+        io::write_all(
+            STDERR_FILENO,
+            b"planbook: standard output could not be written\n",
+        );
+    }
+}
+
 fn main() {
     let mut input = input_buffer();
-    let mut out = output_buffer();
-    let count = io::read_full(STDIN_FILENO, &mut input);
-    let long = reply::reply(&input[..count], &mut out) as usize;
-    io::write_all(STDOUT_FILENO, &out[..long]);
+    let read = input::read_all(&mut input);
+    let count = read.count;
+    if read.failed {
+        io::write_all(
+            STDERR_FILENO,
+            b"planbook: standard input could not be read\n",
+        );
+    } else {
+        answer(&input[..count]);
+    }
 }

@@ -1,34 +1,19 @@
--- `planbook::main` meets its contract: the part of the buffer that is printed lies within it. Assumes nothing.
+-- `planbook::answer` meets its contract: the part of the buffer that is printed lies within it. Assumes nothing.
 use mathlib.Core.Path.{sym}
 use Prim.Native.Nat.{_≤_}
 use native.Mathlib.Omega.{arith}
 use lib.ListN.{length}
 use lib.Seq.{length-take-le}
-use Rattle.reply.proofs.Room.{placed-within}
 use borrow.Author.Needs.{needs}
-use Rattle.planbook.proofs.main.Statement.{statement}
-use Rattle.planbook.proofs.main.Tie as tie
-
-input-buffer-requires : tie.Need-input-buffer-requires
-input-buffer-requires c κs = search needs
+use Rattle.reply.proofs.Room.{placed-within}
+use Rattle.planbook.proofs.answer.Statement.{statement}
+use Rattle.planbook.proofs.answer.Tie as tie
 
 output-buffer-requires : tie.Need-output-buffer-requires
 output-buffer-requires c κs = search needs
 
-slice-aggregate-read-full : tie.Need-slice-aggregate-read-full
-slice-aggregate-read-full c = search needs
-
-read-full-requires : tie.Need-read-full-requires
-read-full-requires c κs = search needs
-
-array-share-prefix-input : tie.Need-array-share-prefix-input
-array-share-prefix-input c = search needs
-
 slice-aggregate-reply : tie.Need-slice-aggregate-reply
 slice-aggregate-reply c = search needs
-
-slice-aggregate-reply-2 : tie.Need-slice-aggregate-reply-2
-slice-aggregate-reply-2 c = search needs
 
 reply-requires : tie.Need-reply-requires
 reply-requires c κs = search needs
@@ -49,23 +34,30 @@ slice-aggregate-write-all c = sym (length-take-le _ _ (within (c .before .before
 write-all-requires : tie.Need-write-all-requires
 write-all-requires c κs = search needs
 
+slice-aggregate-write-all-2 : tie.Need-slice-aggregate-write-all-2
+slice-aggregate-write-all-2 c = search needs
+
+write-all-requires-2 : tie.Need-write-all-requires-2
+write-all-requires-2 c κs = search needs
+
 returns : tie.Need-returns
 returns c = search needs
 
-pub main-spec : {M : Type 1} → statement M
-main-spec =
+returns-2 : tie.Need-returns-2
+returns-2 c = search needs
+
+pub answer-spec : {M : Type 1} → statement M
+answer-spec =
     tie.close
     (tie.spec
-    input-buffer-requires
     output-buffer-requires
-    slice-aggregate-read-full
-    read-full-requires
-    array-share-prefix-input
     slice-aggregate-reply
-    slice-aggregate-reply-2
     reply-requires
     cast-long
     array-share-prefix-out
     slice-aggregate-write-all
     write-all-requires
-    returns)
+    slice-aggregate-write-all-2
+    write-all-requires-2
+    returns
+    returns-2)
