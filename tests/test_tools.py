@@ -745,6 +745,112 @@ class Picture(Case):
         self.assertEqual(self.call(RUN, "--picture", "-", self.example("lockout"), "0x1f", "0x1c"), (0, text, ""))
 
 
+class PictureLook(Case):
+    """What a picture has for the keyboard, for paper and for dark screens; tests/paper.sh tries it in a browser."""
+
+    DRAWN = (("strip", "7 1"), ("lockout", "0x1f 0x1c"), ("three-orders", "0x1f 0x04"), ("gauge-tension", "0x3f 0x22"))
+    DARK = "@media screen and (prefers-color-scheme: dark)"
+
+    def draw(self, source: str, *masks: str) -> xml.Element:
+        out = self.path("out.html")
+        self.assertEqual(self.call(RUN, "--picture", out, source, *masks), (0, "", ""))
+        return xml.parse(out).getroot()
+
+    def style(self) -> str:
+        with open(os.path.join(TOP, "tools", "picture.css"), encoding="utf-8") as file:
+            return file.read()
+
+    def colours(self, text: str) -> Dict[str, str]:
+        """The colours that the first block of names in a style gives."""
+        return dict(re.findall(r"--([a-z0-9-]+): (#[0-9a-f]+);", text[text.index(":root"):].split("}")[0]))
+
+    def test_each_state_is_a_button_that_says_what_it_is(self) -> None:
+        for name, masks in self.DRAWN:
+            read = plant.read_plant(self.example(name))
+            page = self.draw(self.example(name), *masks.split())
+            boxes = [group for group in page.iter("g") if "data-state" in group.attrib]
+            self.assertEqual(len(boxes), read.states * read.goals)
+            for box in boxes:
+                title = box.find("title")
+                assert title is not None
+                self.assertEqual([box.attrib[key] for key in ("tabindex", "role", "aria-pressed", "aria-label")],
+                                 ["0", "button", "false", title.text])
+                self.assertTrue(str(title.text).startswith(f"state {box.attrib['data-state']}"), title.text)
+            # Nothing in a picture may stop being heard for what is around it.
+            self.assertEqual([svg for svg in page.iter("svg") if svg.attrib.get("role") == "img"], [])
+
+    def test_paper_has_each_state_once_for_each_goal_and_whole(self) -> None:
+        for name, masks in self.DRAWN:
+            read = plant.read_plant(self.example(name))
+            page = self.draw(self.example(name), *masks.split())
+            paper = page.find(".//div[@class='paper']")
+            assert paper is not None
+            seen: Dict[str, List[int]] = {}
+            for sheet in paper.findall("div[@class='sheet']"):
+                seen.setdefault(str(sheet.findtext("h3")).strip(), []).extend(self.states_on(sheet))
+            self.assertEqual(list(seen), [f"The way to {facts.named('goal', goal, read.goal_names)}"
+                                          for goal in range(read.goals)])
+            for states in seen.values():
+                self.assertEqual(sorted(states), list(range(read.states)))
+            self.assertEqual([part for part in paper.iter() if {"data-from", "tabindex", "id"} & set(part.attrib)], [])
+
+    def states_on(self, sheet: xml.Element) -> List[int]:
+        """The states of a sheet; it fits on the paper, and no box is cut."""
+        svg = sheet.find("svg")
+        assert svg is not None
+        self.assertLessEqual(float(svg.attrib["width"]), 1040)
+        self.assertLessEqual(float(svg.attrib["height"]), 670)
+        left, top, width, height = (float(number) for number in svg.attrib["viewBox"].split())
+        for box in svg.findall(".//rect[@class='frame']"):
+            x, y, wide, high = (float(box.attrib[key]) for key in ("x", "y", "width", "height"))
+            self.assertTrue(left < x < x + wide < left + width and top < y < y + high < top + height, box.attrib)
+        return [int(str(number.text)) for number in svg.findall(".//tspan[@class='number']")]
+
+    def test_cells_of_a_grid_are_on_sheets(self) -> None:
+        lines = ["plant states 1024 moves 1 goals 2"] + [f"state {state} allowed" for state in range(1024)]
+        page = self.draw(self.write("a.plant", "\n".join(lines).encode()), "1")
+        for goal in range(2):
+            sheets = page.findall(f".//div[@id='view{goal}']/div[@class='sheet']")
+            self.assertEqual([sheet.findtext("h3/small") for sheet in sheets],
+                             [f"a.plant, sheet {number} of 2" for number in (1, 2)])
+            self.assertEqual([int(str(text.text)) for sheet in sheets for text in sheet.iter("text")
+                              if text.attrib["class"] == "number"], list(range(1024)))
+
+    def test_dark_is_for_screens_alone_and_names_every_colour(self) -> None:
+        text = self.style()
+        self.assertEqual(text.count("prefers-color-scheme"), text.count(self.DARK))
+        self.assertEqual(text.count("color-scheme: light dark"), 1)
+        light, dark = self.colours(text), self.colours(text[text.index(self.DARK):])
+        self.assertEqual(set(light), set(dark))
+        used = set(re.findall(r"var\(--([a-z0-9-]+)\)", text))
+        self.assertEqual(used - {"ring", "label"}, set(light) - {"ring", "label"})
+
+    def test_text_stands_out_in_both_styles(self) -> None:
+        text = self.style()
+        pairs = [("ink", back) for back in ("page", "kept", "dropped", "dropped-row", "lost", "lost-cell", "lost-row",
+                                            "band0", "band1", "head")]
+        pairs += [("soft", back) for back in ("page", "band0", "band1")] + [("choice", "page")]
+        pairs += [("white", "label"), ("white", "never")]
+        lines = [(line, back) for line in ("kept-line", "dropped-line", "lost-line", "onward", "thin", "ring")
+                 for back in ("band0", "band1")]
+        for start in (0, text.index(self.DARK)):
+            colours = {**self.colours(text[start:]), "white": "#ffffff"}
+            for least, some in ((4.5, pairs), (3.0, lines)):
+                for front, back in some:
+                    self.assertGreaterEqual(contrast(colours[front], colours[back]), least, (start, front, back))
+
+
+def contrast(one: str, other: str) -> float:
+    """How far two colours are apart in light, as WCAG counts it: 1 to 21."""
+    lights = []
+    for colour in (one, other):
+        digits = colour[1:] if len(colour) == 7 else "".join(digit * 2 for digit in colour[1:])
+        parts = [int(digits[at:at + 2], 16) / 255 for at in (0, 2, 4)]
+        linear = [part / 12.92 if part <= 0.04045 else ((part + 0.055) / 1.055) ** 2.4 for part in parts]
+        lights.append(0.2126 * linear[0] + 0.7152 * linear[1] + 0.0722 * linear[2])
+    return (max(lights) + 0.05) / (min(lights) + 0.05)
+
+
 # The drive side cylinder takes part in moves 2, 3 and 4 of examples/lockout.plant. What taking it out costs, and what
 # its repair gains.
 LOCKOUT_COST = """would go out of service: move 2 drive side down; move 3 both sides down; move 4 both sides up

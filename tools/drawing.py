@@ -1,8 +1,11 @@
-"""The drawings of a book, one for each goal, as SVG: states in rows by wait with their moves, or a grid of cells."""
+"""The drawings of a book, one for each goal, as SVG: states in rows by wait with their moves, or a grid of cells.
+
+On paper a drawing is cut between its rows into as many sheets as it takes to be read."""
 from __future__ import annotations
 
 from html import escape
-from typing import Dict, List, Tuple
+from math import ceil
+from typing import Dict, List, Sequence, Tuple
 
 from facts import DROPPED, KEPT, KINDS, LOST, NOT_ALLOWED, Facts
 from layout import STATE_SPACE, Edge, Layout, Point
@@ -17,6 +20,10 @@ FEW = 12  # up to so many states every arrow has its label
 
 CELL_WIDTH, CELL_HEIGHT, COLUMNS = 42, 34, 32
 
+PAPER_WIDTH, PAPER_HEIGHT = 1040.0, 670.0  # room for a sheet on A4 landscape, below its heading, in CSS pixels
+LARGEST, SMALLEST = 0.9, 0.67  # the scale of a diagram on paper; its smallest text is 8 or 6 points high then
+PAPER_ROWS = (6, 5, 4, 3)  # states in a row at most; what fits best is taken
+
 WORDS = {KEPT: "kept", DROPPED: "DROPPED", LOST: "LOST", NOT_ALLOWED: "NOT ALLOWED"}
 SHORT = {DROPPED: "DROP", LOST: "lost", NOT_ALLOWED: "n.a."}
 
@@ -26,18 +33,24 @@ def short(text: str, limit: int) -> str:
 
 
 class Diagram:
-    """One goal's drawing. Rows from top to bottom: waits rising, then dropped, lost and not allowed states."""
+    """One goal's drawing. Rows from top to bottom: waits rising, then dropped, lost and not allowed states.
 
-    def __init__(self, facts: Facts, goal: int) -> None:
+    For the screen it is whole, and its states can be picked; for paper it is kept narrow and given in sheets.
+    """
+
+    def __init__(self, facts: Facts, goal: int, per_row: int = ROW, paper: bool = False) -> None:
         self.facts = facts
         self.goal = goal
+        self.per_row = per_row
+        self.paper = paper
         self.few = facts.plant.states <= FEW
         self.rows, self.headings = self.row_list()
         self.listed = [(state, end, self.listed_sort(state)) for state in facts.of_kind(KEPT)
                        for end in facts.listed_ends(state, goal)]
         self.thin = self.thin_edges()
         # With few states every arrow is led round the boxes; with many only the listed ones.
-        self.layout = Layout(self.rows, self.listed + (list(self.thin) if self.few else []))
+        limit = PAPER_WIDTH / SMALLEST - LEFT - RIGHT if paper else None
+        self.layout = Layout(self.rows, self.listed + (list(self.thin) if self.few else []), limit)
         self.entries = self.entry_places()
 
     def listed_sort(self, state: int) -> str:
@@ -63,7 +76,7 @@ class Diagram:
         rows: List[List[int]] = []
         headings: List[Tuple[str, str, int]] = []
         for (wait, kind), states in sorted(groups.items()):
-            parts = [states[at:at + ROW] for at in range(0, len(states), ROW)]
+            parts = [states[at:at + self.per_row] for at in range(0, len(states), self.per_row)]
             rows += parts
             headings.append((*self.heading(kind, wait), len(parts)))
         return rows, headings
@@ -94,30 +107,70 @@ class Diagram:
                 places[edge] = self.centre(state)[0] + ((at + 0.5) / len(edges) - 0.5) * WIDTH * 0.8
         return places
 
-    def svg(self) -> str:
-        width = LEFT + self.layout.width() + RIGHT
-        height = len(self.rows) * PITCH
-        parts = [f'<svg class="diagram" viewBox="0 0 {width:.0f} {height:.0f}" width="{width:.0f}" '
-                 f'style="min-width: {width * SHRINK:.0f}px" role="img" '
-                 f'aria-label="Plant and book for goal {self.goal}">']
-        parts += self.bands(width)
-        parts += [self.thin_arrow(edge, moves) for edge, moves in self.thin.items()]
-        parts += [self.listed_arrow(edge) for edge in self.listed]
-        parts += [self.box(state) for state in range(self.facts.plant.states)]
-        return "\n".join(parts + ["</svg>"])
+    def width(self) -> float:
+        return LEFT + self.layout.width() + RIGHT
 
-    def bands(self, width: float) -> List[str]:
-        """A stripe and a heading for each group of rows."""
+    def svg(self) -> str:
+        """The whole drawing, for the screen."""
+        width, height = self.width(), len(self.rows) * PITCH
+        start = (f'<svg class="diagram" viewBox="0 0 {width:.0f} {height:.0f}" width="{width:.0f}" '
+                 f'style="min-width: {width * SHRINK:.0f}px" role="group" '
+                 f'aria-label="Plant and book for goal {self.goal}">')
+        return "\n".join([start, *self.content(0, len(self.rows)), "</svg>"])
+
+    def fit(self) -> Tuple[int, float]:
+        """The rows on each sheet of paper, and the scale."""
+        return fit(self.width(), len(self.rows), PITCH, SMALLEST)
+
+    def sheets(self) -> List[str]:
+        """The drawing for paper. Arrows that go on to another sheet run off the edge."""
+        per_sheet, scale = self.fit()
+        return [self.sheet(row, min(row + per_sheet, len(self.rows)), scale)
+                for row in range(0, len(self.rows), per_sheet)]
+
+    def sheet(self, first: int, end: int, scale: float) -> str:
+        width, height = self.width(), (end - first) * PITCH
+        start = (f'<svg viewBox="0 {first * PITCH:.0f} {width:.0f} {height:.0f}" width="{width * scale:.0f}" '
+                 f'height="{height * scale:.0f}">')
+        return "\n".join([start, *self.content(first, end), "</svg>"])
+
+    def content(self, first: int, end: int) -> List[str]:
+        """What is seen of the rows from first to before end."""
+        parts = self.bands(first, end)
+        parts += [self.thin_arrow(edge, moves) for edge, moves in self.thin.items() if self.seen(edge, first, end)]
+        parts += [self.listed_arrow(edge) for edge in self.listed if self.seen(edge, first, end)]
+        return parts + [self.state(state) for state in range(self.facts.plant.states)
+                        if first <= self.layout.row_of[state] < end]
+
+    def seen(self, edge: Edge, first: int, end: int) -> bool:
+        """Whether an arrow comes into these rows; a bent one may reach into the row beside it."""
+        upper, lower = sorted(self.layout.row_of[state] for state in edge[:2])
+        return upper - 1 < end and first <= lower + 1
+
+    def bands(self, first: int, end: int) -> List[str]:
+        """A stripe and a heading for each group of rows, as far as it is seen."""
         parts = []
         row = 0
         for at, (heading, under, count) in enumerate(self.headings):
-            y = row * PITCH
-            parts.append(f'<rect class="band{at % 2}" x="0" y="{y:.0f}" width="{width:.0f}" '
-                         f'height="{count * PITCH:.0f}"/>')
+            top, bottom = max(row, first), min(row + count, end)
+            row += count
+            if top >= bottom:
+                continue
+            y = top * PITCH
+            parts.append(f'<rect class="band{at % 2}" x="0" y="{y:.0f}" width="{self.width():.0f}" '
+                         f'height="{(bottom - top) * PITCH:.0f}"/>')
             parts.append(f'<text class="heading" x="12" y="{y + 66:.0f}">{heading}</text>')
             parts.append(f'<text class="under" x="12" y="{y + 84:.0f}">{under}</text>')
-            row += count
         return parts
+
+    def state(self, state: int) -> str:
+        """A state's box; on the screen it is a button that says in words what the book says."""
+        kind = self.facts.kind(state)
+        if self.paper:
+            return f'<g class="state {kind}">{self.box(state)}</g>'
+        sentence = escape(self.facts.sentence(state, self.goal))
+        return (f'<g class="state {kind}" data-state="{state}" tabindex="0" role="button" aria-pressed="false" '
+                f'aria-label="{sentence}"><title>{sentence}</title>{self.box(state)}</g>')
 
     def box(self, state: int) -> str:
         facts, kind = self.facts, self.facts.kind(state)
@@ -126,9 +179,7 @@ class Diagram:
         name = escape(short(facts.plant.state_names.get(state, ""), 21))
         goals = facts.plant.goals_of(state) if kind != NOT_ALLOWED else []
         word = f"wait {facts.entry(state, self.goal).wait}" if kind == KEPT else WORDS[kind]
-        parts = [f'<g class="state {kind}" data-state="{state}">',
-                 f'<title>{escape(facts.sentence(state, self.goal))}</title>',
-                 f'<rect x="{left:.1f}" y="{top:.1f}" width="{WIDTH}" height="{HEIGHT}" rx="7"/>']
+        parts = [f'<rect class="frame" x="{left:.1f}" y="{top:.1f}" width="{WIDTH}" height="{HEIGHT}" rx="7"/>']
         if self.goal in goals and kind == KEPT:
             parts.append(f'<rect class="inner" x="{left + 4:.1f}" y="{top + 4:.1f}" width="{WIDTH - 8}" '
                          f'height="{HEIGHT - 8}" rx="4"/>')
@@ -139,7 +190,7 @@ class Diagram:
             parts.append(f'<text class="ingoal" x="{x + WIDTH / 2 - 10:.1f}" y="{y + 16:.1f}">★ {served}</text>')
         if kind == KEPT:
             parts.append(self.pill(state))
-        return "".join(parts + ["</g>"])
+        return "".join(parts)
 
     def pill(self, state: int) -> str:
         """The label of the listed move, on top of the state's box."""
@@ -157,10 +208,13 @@ class Diagram:
     def pill_width(self, state: int) -> float:
         return min(WIDTH - 36, 14 + 7.8 * len(self.pill_text(state)))
 
+    def ends(self, edge: Edge) -> str:
+        """The arrow's states, for the script that follows clicks."""
+        return "" if self.paper else f' data-from="{edge[0]}" data-to="{edge[1]}"'
+
     def listed_arrow(self, edge: Edge) -> str:
-        start, end, sort = edge
-        return (f'<path class="edge {sort}" data-from="{start}" data-to="{end}" d="{self.listed_path(edge)}" '
-                f'marker-end="url(#head-{sort})"/>')
+        return (f'<path class="edge {edge[2]}"{self.ends(edge)} d="{self.listed_path(edge)}" '
+                f'marker-end="url(#head-{edge[2]})"/>')
 
     def listed_path(self, edge: Edge) -> str:
         """From the label on the start's box to the end's box, through the way-points."""
@@ -203,13 +257,15 @@ class Diagram:
         return path + curve(x, y, corner, top - HEIGHT / 2 - 3)
 
     def thin_arrow(self, edge: Edge, moves: List[int]) -> str:
-        start, end, sort = edge
+        sort, ends = edge[2], self.ends(edge)
         path, label = self.thin_path(edge)
+        line = f'<path class="edge {sort}"{ends} d="{path}" marker-end="url(#head-{sort})"/>'
+        if self.paper and not self.few:
+            return line
         text = ", ".join(str(move) for move in moves)
         always = " always" if self.few else ""
-        ends = f'data-from="{start}" data-to="{end}"'
-        return (f'<path class="edge {sort}" {ends} d="{path}" marker-end="url(#head-{sort})"/>'
-                f'<text class="edge tag {sort}{always}" {ends} x="{label[0]:.1f}" y="{label[1]:.1f}">{text}</text>')
+        return line + (f'<text class="edge tag {sort}{always}"{ends} x="{label[0]:.1f}" y="{label[1]:.1f}">'
+                       f'{text}</text>')
 
     def thin_path(self, edge: Edge) -> Tuple[str, Point]:
         """The line, and the place of its label."""
@@ -282,13 +338,43 @@ def markers() -> str:
     return f'<svg class="markers" width="0" height="0" aria-hidden="true"><defs>{shapes}</defs></svg>'
 
 
-def grid(facts: Facts, goal: int) -> str:
-    """A cell for each state, in the order of their numbers; a cell leads to its row in the table."""
-    rows = (facts.plant.states + COLUMNS - 1) // COLUMNS
-    width, height = COLUMNS * CELL_WIDTH + 2, rows * CELL_HEIGHT + 2
-    cells = "\n".join(cell(facts, state, goal) for state in range(facts.plant.states))
-    return (f'<svg class="grid" viewBox="0 0 {width} {height}" width="{width}" height="{height}" role="img" '
-            f'aria-label="States and waits for goal {goal}">\n{cells}\n</svg>')
+def fit(width: float, rows: int, pitch: float, smallest: float) -> Tuple[int, float]:
+    """The rows on each sheet of paper, and the scale: as few sheets as can be read, then as large as there is room."""
+    widest = min(LARGEST, PAPER_WIDTH / width)
+    most = max(1, int(PAPER_HEIGHT / (pitch * min(widest, smallest))))
+    per_sheet = ceil(rows / ceil(rows / most))
+    return per_sheet, min(widest, PAPER_HEIGHT / (pitch * per_sheet))
+
+
+def paper_sheets(facts: Facts, goal: int) -> List[str]:
+    """A goal's diagram for paper, with as many states in a row as can be read best, on the fewest sheets."""
+    drawings = [Diagram(facts, goal, PAPER_ROWS[0], paper=True)]
+    for per_row in PAPER_ROWS[1:]:
+        if any(len(row) > per_row for row in drawings[-1].rows):
+            drawings.append(Diagram(facts, goal, per_row, paper=True))
+    return min(drawings, key=faults).sheets()
+
+
+def faults(drawing: Diagram) -> Tuple[float, int, float]:
+    """What counts against a drawing on paper, in this order: text that is too small, sheets, smaller text."""
+    per_sheet, scale = drawing.fit()
+    return max(0.0, round(SMALLEST - scale, 2)), ceil(len(drawing.rows) / per_sheet), -scale
+
+
+def grid_sheets(facts: Facts, goal: int) -> List[str]:
+    """A cell for each state, in the order of their numbers, cut into what a sheet of paper holds."""
+    width, states = COLUMNS * CELL_WIDTH + 2, range(facts.plant.states)
+    rows = [states[at:at + COLUMNS] for at in range(0, len(states), COLUMNS)]
+    per_sheet, _ = fit(width, len(rows), CELL_HEIGHT, 1.0)
+    return [grid(facts, goal, rows[at:at + per_sheet]) for at in range(0, len(rows), per_sheet)]
+
+
+def grid(facts: Facts, goal: int, rows: Sequence[Sequence[int]]) -> str:
+    """Some rows of cells; a cell leads to its row in the table."""
+    width, height = COLUMNS * CELL_WIDTH + 2, len(rows) * CELL_HEIGHT
+    cells = "\n".join(cell(facts, state, goal) for row in rows for state in row)
+    return (f'<svg class="grid" viewBox="0 {rows[0][0] // COLUMNS * CELL_HEIGHT} {width} {height}" width="{width}" '
+            f'height="{height}" role="group" aria-label="States and waits for goal {goal}">\n{cells}\n</svg>')
 
 
 def cell(facts: Facts, state: int, goal: int) -> str:

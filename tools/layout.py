@@ -5,7 +5,8 @@ improved by averages of neighbours, and the places are then pulled towards their
 """
 from __future__ import annotations
 
-from typing import Dict, List, Sequence, Tuple, Union
+from math import inf
+from typing import Dict, List, Optional, Sequence, Tuple, Union
 
 State = int
 Edge = Tuple[State, State, str]  # from, to, sort of line
@@ -19,9 +20,13 @@ PULLS = 24
 
 
 class Layout:
-    """Where the states stand (x of each) and the x of each edge's way-points, by row."""
+    """Where the states stand (x of each) and the x of each edge's way-points, by row.
 
-    def __init__(self, rows: Sequence[Sequence[State]], edges: Sequence[Edge]) -> None:
+    With a limit the drawing gets no wider than that, or than its fullest row.
+    """
+
+    def __init__(self, rows: Sequence[Sequence[State]], edges: Sequence[Edge], limit: Optional[float] = None) -> None:
+        self.limit = limit
         self.row_of = {state: at for at, row in enumerate(rows) for state in row}
         self.rows: List[List[Item]] = [list(row) for row in rows]
         self.up: Dict[Item, List[Item]] = {}
@@ -90,10 +95,14 @@ class Layout:
             for item in row:
                 x[item] = at + space(item) / 2
                 at += space(item)
+        half = self.half_width()
         for _ in range(PULLS):
             for row in self.rows:
                 self.pull(row, x)
+                keep_within(row, x, half)
         self.centre_loose_rows(x)
+        for row in self.rows:
+            keep_within(row, x, half)
         left = min((x[item] - space(item) / 2 for item in x), default=0.0)
         return {item: value - left for item, value in x.items()}
 
@@ -121,6 +130,12 @@ class Layout:
         for at, item in enumerate(row):
             x[item] = (left[at] + right[at]) / 2
 
+    def half_width(self) -> float:
+        """How far items may stand from the middle."""
+        if self.limit is None:
+            return inf
+        return max([self.limit] + [sum(space(item) for item in row) for row in self.rows]) / 2
+
     def width(self) -> float:
         return max((value + space(item) / 2 for item, value in self.x.items()), default=0.0)
 
@@ -131,3 +146,15 @@ def space(item: Item) -> float:
 
 def gap(one: Item, other: Item) -> float:
     return (space(one) + space(other)) / 2
+
+
+def keep_within(row: List[Item], x: Dict[Item, float], half: float) -> None:
+    """Pushes a row's items in from both edges, which are this far from the middle."""
+    edge = -half
+    for item in row:
+        x[item] = max(x[item], edge + space(item) / 2)
+        edge = x[item] + space(item) / 2
+    edge = half
+    for item in reversed(row):
+        x[item] = min(x[item], edge - space(item) / 2)
+        edge = x[item] - space(item) / 2

@@ -1,7 +1,7 @@
-// A click on a state leaves only its own arrows plain; a second click, or one beside it, shows all again.
+// A click on a state, or Enter or the space bar there, leaves only its own arrows plain; the same once more, a click
+// beside it or Escape shows all again.
 document.querySelectorAll("svg.diagram").forEach(function (svg) {
-  svg.addEventListener("click", function (event) {
-    var box = event.target.closest(".state");
+  function pick(box) {
     var again = box === null || (svg.dataset.picked === box.dataset.state);
     svg.dataset.picked = again ? "" : box.dataset.state;
     svg.classList.toggle("picked", again === false);
@@ -13,6 +13,16 @@ document.querySelectorAll("svg.diagram").forEach(function (svg) {
     });
     svg.querySelectorAll(".state").forEach(function (state) {
       state.classList.toggle("on", near.indexOf(state.dataset.state) !== -1);
+      state.setAttribute("aria-pressed", state.dataset.state === svg.dataset.picked);
     });
+  }
+  svg.addEventListener("click", function (event) { pick(event.target.closest(".state")); });
+  svg.addEventListener("keydown", function (event) {
+    if (["Enter", " "].indexOf(event.key) === -1) { return; }
+    event.preventDefault();
+    pick(event.target.closest(".state"));
+  });
+  document.addEventListener("keydown", function (event) {
+    if (event.key === "Escape") { pick(null); }
   });
 });

@@ -15,7 +15,7 @@ from html import escape
 from typing import List
 
 from command import masks_from, run_command
-from drawing import FEW, Diagram, grid, markers
+from drawing import FEW, Diagram, grid_sheets, markers, paper_sheets
 from facts import DROPPED, KEPT, LOST, NOT_ALLOWED, Facts, gather, move_list, ranges
 from listing import service
 from plant import PlantError, read_plant, shown_name, write_file
@@ -33,7 +33,8 @@ def page(facts: Facts) -> str:
              '<meta name="viewport" content="width=device-width"/>', f"<title>Control book: {title}</title>",
              f"<style>{part('picture.css')}{switch_style(facts)}</style></head><body>",
              markers(), f"<h1>Control book: {title}</h1>"]
-    parts += summary(facts) + switches(facts) + legend(facts) + table(facts)
+    # On paper the legend comes before the drawings; on the screen the style puts it below them.
+    parts += summary(facts) + ['<div class="middle">'] + legend(facts) + switches(facts) + ["</div>"] + table(facts)
     if not collapsed(facts):
         parts.append(f"<script>{part('picture.js')}</script>")
     return "\n".join(parts + ["</body></html>", ""])
@@ -58,8 +59,8 @@ def switch_style(facts: Facts) -> str:
     rules = []
     for goal in range(facts.plant.goals):
         rules.append(f"#goal{goal}:checked ~ .views #view{goal} {{ display: block; }}")
-        rules.append(f"#goal{goal}:checked ~ .choice[for=goal{goal}] {{ background: #00527f; color: #fff; }}")
-        rules.append(f"#goal{goal}:focus-visible ~ .choice[for=goal{goal}] {{ outline: 3px solid #e69f00; }}")
+        rules.append(f"#goal{goal}:checked ~ .choice[for=goal{goal}] {{ background: var(--label); color: #fff; }}")
+        rules.append(f"#goal{goal}:focus-visible ~ .choice[for=goal{goal}] {{ outline: 3px solid var(--ring); }}")
     rules += [f"#show-{sort}:not(:checked) ~ .views .edge.{sort}:not(.on) {{ display: none; }}"
               for sort in ("other", "out")]
     return "\n".join(rules) + "\n"
@@ -86,9 +87,9 @@ def summary(facts: Facts) -> List[str]:
 
 
 def switches(facts: Facts) -> List[str]:
-    """The goal switch and the drawings."""
+    """The goal switch and the drawings: on the screen one at a time, on paper all."""
     goals = range(facts.plant.goals)
-    parts = ["<h2>The way to each goal</h2>", "<div>"]
+    parts = ["<div>", '<h2 class="screen">The way to each goal</h2>']
     for goal in goals:
         checked = ' checked="checked"' if goal == 0 else ""
         parts.append(f'<input class="switch" type="radio" name="goal" id="goal{goal}"{checked}/>'
@@ -99,13 +100,28 @@ def switches(facts: Facts) -> List[str]:
     else:
         for sort, text in (("other", "other arrows in service"), ("out", "withdrawn arrows")):
             parts.append(f'<input class="tick" type="checkbox" id="show-{sort}" checked="checked"/>'
-                         f'<label for="show-{sort}">{text}</label>')
-        parts.append('<p class="hint">Click a state to see its own arrows alone; click it again to see all.</p>')
+                         f'<label class="tick" for="show-{sort}">{text}</label>')
+        parts.append('<p class="hint">Click a state to see its own arrows alone; click it again to see all. '
+                     'Or go to it with Tab and press Enter; Escape shows all.</p>')
     parts.append(f'<div class="views{"" if facts.plant.states <= FEW else " many"}">')
     for goal in goals:
-        drawing = grid(facts, goal) if collapsed(facts) else Diagram(facts, goal).svg()
+        drawing = on_sheets(facts, goal, grid_sheets(facts, goal)) if collapsed(facts) else Diagram(facts, goal).svg()
         parts.append(f'<div class="view" id="view{goal}">{drawing}</div>')
+    if not collapsed(facts):
+        parts.append('<div class="paper">')
+        parts += [on_sheets(facts, goal, paper_sheets(facts, goal)) for goal in goals]
+        parts.append("</div>")
     return parts + ["</div>", "</div>"]
+
+
+def on_sheets(facts: Facts, goal: int, drawings: List[str]) -> str:
+    """The parts of a goal's drawing; on paper each has a heading, for sheets come apart."""
+    parts = []
+    for number, drawing in enumerate(drawings, start=1):
+        which = f", sheet {number} of {len(drawings)}" if len(drawings) > 1 else ""
+        parts.append(f'<div class="sheet"><h3>The way to {escape(facts.goal_text(goal))} '
+                     f'<small>{escape(facts.title)}{which}</small></h3>{drawing}</div>')
+    return "\n".join(parts)
 
 
 def legend(facts: Facts) -> List[str]:
@@ -119,11 +135,11 @@ def legend(facts: Facts) -> List[str]:
              f"<div><b>{'wait 3' if plain else 'w 3'}</b> the goal is met within 3 moves, whatever happens</div>",
              "<div><b>★</b> the state is in the goal</div>"]
     if plain:
-        lines += [stroke("listed", "the listed move (dark label): make this one; any of its arrows may be followed"),
+        lines += [stroke("listed", "the listed move (label on the box): make this; any of its arrows may be followed"),
                   stroke("onward", "the listed move in a goal state: to go on from there when every goal is met"),
                   stroke("other", "another move in service (small figures: its number)"),
                   stroke("out", "a move out of service")]
-    return ["<h2>Legend</h2>", '<div class="legend">'] + lines + ["</div>"]
+    return ["<div>", "<h2>Legend</h2>", '<div class="legend">'] + lines + ["</div>", "</div>"]
 
 
 def chip(kind: str, word: str, text: str) -> str:
@@ -139,9 +155,10 @@ def table(facts: Facts) -> List[str]:
     """One row for each state: for each goal the wait, the move and where it may lead."""
     heads = "".join(f"<th>{escape(facts.goal_text(goal))}: wait, move</th>" for goal in range(facts.plant.goals))
     name = "<th>name</th>" if facts.plant.state_names else ""
-    parts = ["<h2>All states</h2>", f"<table><thead><tr><th>state</th>{name}<th>book</th>{heads}</tr></thead><tbody>"]
+    parts = ['<div class="all">', "<h2>All states</h2>",
+             f"<table><thead><tr><th>state</th>{name}<th>book</th>{heads}</tr></thead><tbody>"]
     parts += [table_row(facts, state) for state in range(facts.plant.states)]
-    return parts + ["</tbody></table>"]
+    return parts + ["</tbody></table>", "</div>"]
 
 
 def table_row(facts: Facts, state: int) -> str:
