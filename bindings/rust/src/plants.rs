@@ -115,6 +115,28 @@ pub fn longest() -> Model {
     model
 }
 
+/// A plant that takes long to make: gates in every goal of which one more is lost in each round, and a line of states
+/// that leads to the first of them, so that each round works out waits as long as the line for all eight goals. A state
+/// of the line has many moves that lead away, and its last one leads on. In the end all states are lost.
+pub fn gates() -> Model {
+    let (line, moves) = (512, 15);
+    let mut model = empty(1024, moves, 8);
+    for state in 0..line {
+        let away = (state + 1..line).take(usize::from(moves) - 1);
+        model.arrows.extend(away.zip(0..).map(|(end, action)| [state, action, end]));
+        model.arrows.push([state, moves - 1, if state == 0 { line } else { state - 1 }]);
+    }
+    for gate in line..1024 {
+        for goal in 0..model.goals {
+            set_goal(&mut model, gate, goal);
+        }
+        if gate < 1023 {
+            model.arrows.push([gate, 0, gate + 1]);
+        }
+    }
+    model
+}
+
 /// The families of plants. Each is built for any number of states from 1 to 1,024 and any seed. To withdraw the highest
 /// move of a plant is what its family is meant to show.
 #[derive(Clone, Copy, Debug, PartialEq, Eq)]

@@ -34,6 +34,8 @@ fn generated_plants_are_accepted() {
             assert_eq!(plant.states, usize::from(states));
         }
     }
+    let gates = Plant::read(&plants::gates().bytes()).expect("the slow one");
+    assert_eq!([gates.states, gates.moves, gates.goals, gates.arrows.len()], [1024, 15, 8, 8_086]);
     let (mut least, mut most) = ([usize::MAX; 4], [0; 4]);
     for seed in 0..4_000 {
         let plant = Plant::read(&plants::any_size(&mut Random::new(seed)).bytes()).expect("any size");

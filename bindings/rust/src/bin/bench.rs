@@ -18,6 +18,8 @@
 //! serves all of them (`passing`); `check`, a make that is refused for want of room, so that it checks the plant and no
 //! more; moves in the state that serves all goals, which has one arrow, and in the busiest state there can be; and how
 //! many times as long as the first consult each solver takes for these.
+//!
+//! The last line is one make of a plant that takes long to make, for the library and the worklist solver.
 
 use std::hint::black_box;
 use std::mem::swap;
@@ -69,6 +71,18 @@ fn main() {
     for call in 1..LOOKUPS.len() {
         print_ratio("longest", &LOOKUPS, [call, 0], &figures);
     }
+    for planner in planners.iter().filter(|planner| planner.name() != Plain.name()) {
+        println!("gates: one make takes {} {:.4} s", planner.name(), make_once(*planner, &plants::gates()));
+    }
+}
+
+/// The CPU time of one make, in seconds.
+fn make_once(planner: &dyn Calls, model: &Model) -> f64 {
+    let plant = model.bytes();
+    let mut book = vec![0; 16 + 4 * model.labels.len() * usize::from(model.goals)];
+    let start = cpu_time();
+    accepted(planner.make(&plant, model.every_move(), &mut book).number);
+    (cpu_time() - start) as f64 / 1e9
 }
 
 /// What is found out of a planner on a plant, call by call.
