@@ -4,22 +4,28 @@
  * Link target/staticlib/libplanbook_c.a, made by `rt staticlib planbook_c`. There is no global state, no heap and no
  * thread: every call works on the memory it is lent and on less than 256 KiB of stack. Any bytes may be handed in.
  *
- * Plants and books are byte strings; docs/FORMATS.md describes them. Every call returns a `number`: 0 when it was
- * accepted, otherwise the first of these that applies, and then every other field is 0 and no byte was written:
+ * Plants and books are byte strings; docs/FORMATS.md describes them. There are two sorts. In a plant whose last header
+ * number is 1 every run must settle: from some moment on all its states are settled, as bit 9 of their labels says. In
+ * its books each row opens with a stage, and they are 2S bytes longer: 16 + 2S + 4SN. A plant with 0 there has books of
+ * 16 + 4SN bytes, without stages. A book's length tells its sort.
+ *
+ * Every call returns a `number`: 0 when it was accepted, otherwise the first of these that applies, and then every
+ * other field is 0 and no byte was written:
  *
  *   1  the plant is under 16 bytes, a count is out of range (S 1 to 1,024, U 1 to 32, N 1 to 8, E 0 to 8,192), an
- *      offset, the length or the last header number is wrong, or plant_len differs from the length
- *   2  a label has a bit above bit N
+ *      offset or the length is wrong, the last header number is neither 0 nor 1, or plant_len differs from the length
+ *   2  a label has a bit above bit N; bit 9 is free where the last header number is 1
  *   3  an arrow's state or move is out of range, or the arrows do not strictly ascend
- *   4  the book is under 16 bytes, its S, U or N is out of range, an offset or the length is wrong, its mask has a bit
- *      at U or above, or book_len differs from the length; in every call that takes a plant too also S, U or N unlike
- *      the plant's
- *   5  a row is neither wholly lost nor with every wait at most 1,023 and every move in the book's mask, or K is not
- *      the number of rows that are not lost
+ *   4  the book is under 16 bytes, its S, U or N is out of range, an offset is wrong, the length is that of neither
+ *      sort, its mask has a bit at U or above, or book_len differs from the length; in every call that takes a plant too
+ *      also S, U, N or the sort unlike the plant's
+ *   5  a row is neither wholly lost nor with every wait at most 1,023, every move in the book's mask and, in a book with
+ *      stages, the stage from 1 to S; or K is not the number of rows that are not lost. A row is wholly lost when all
+ *      its numbers, the stage too, are 65,535
  *   9  the list of masks has a length that is not a multiple of 4 or is above 64 bytes
  *   6  the mask given, or any mask of the list, has a bit at U or above
- *   7  the book buffer is under 16 + 4SN bytes, or the drop buffer, or that for the states gained, under 2S; preview
- *      has the drop buffer alone
+ *   7  the book buffer is under 16 + 4SN bytes, for a plant that must settle under 16 + 2S + 4SN, or the drop buffer, or
+ *      that for the states gained, under 2S; preview has the drop buffer alone
  *   8  the state is not below S, or the goal not below N
  *
  * Buffers must not overlap: neither each other nor what is lent for reading. A buffer that is lent for writing keeps
@@ -35,9 +41,12 @@
 extern "C" {
 #endif
 
-/* The longest plant and the longest book, what a list of states needs at most, and the longest list of masks. */
+/*
+ * The longest plant and the longest book, one with stages, what a list of states needs at most, and the longest list of
+ * masks.
+ */
 #define PLANBOOK_PLANT_MAX 51216u
-#define PLANBOOK_BOOK_MAX 32784u
+#define PLANBOOK_BOOK_MAX 34832u
 #define PLANBOOK_DROPS_MAX 2048u
 #define PLANBOOK_MASKS_MAX 64u
 
@@ -58,13 +67,15 @@ typedef struct {
 /*
  * What consult answers. The goal arrived at is the first, from the goal sought onward in turn, that the state does not
  * serve: whose wait in the state's row is not 0. After the last goal comes the first. If the state serves all of them,
- * it is the goal sought.
+ * it is the goal sought. In a book with stages a state that has a move wholly into earlier stages serves all goals: its
+ * move leaves the stage.
  */
 typedef struct {
     uint32_t number; /* 0, or why it was refused */
     uint32_t lost;   /* 1 when the state is lost; the fields below are then 0 */
     uint32_t move;   /* the move to make for the goal arrived at, below U */
-    uint32_t wait;   /* the most moves it can take to that goal; 0 exactly when the state serves all goals */
+    uint32_t wait;   /* the most moves it can take to that goal; 0 exactly when the state serves all goals. In a book
+                        with stages, to that goal, an earlier stage, or a state whose move leaves the stage */
     uint32_t seek;   /* the goal arrived at: hand it in as the goal sought in the state that follows */
 } planbook_advice;
 
@@ -72,7 +83,8 @@ typedef struct {
 typedef struct {
     uint32_t number; /* 0, or why it was refused */
     uint32_t start;  /* the row's first byte in the book */
-    uint32_t length; /* its length: 4 bytes for each goal, wait then move, two bytes each; 0 only when refused */
+    uint32_t length; /* its length: 4 bytes for each goal, wait then move, two bytes each, and in a book with stages 2
+                        bytes before them, the stage; 0 only when refused */
 } planbook_part;
 
 /* What moves answers. */
@@ -81,13 +93,18 @@ typedef struct {
     uint32_t mask;   /* every good move for the goal arrived at (bit u is move u); 0 when the state is lost */
 } planbook_mask;
 
-/* Makes the book of a plant with the moves of a mask in service (bit u is move u). Refusals 1, 2, 3, 6, 7. */
+/*
+ * Makes the book of a plant with the moves of a mask in service (bit u is move u). In a plant that must settle a state
+ * has the least stage k for which a strategy passes settled states alone and meets every goal again and again, or comes
+ * to a state, settled or not, with a move wholly into stages below k. Refusals 1, 2, 3, 6, 7.
+ */
 planbook_answer planbook_make(const uint8_t *plant, size_t plant_len, uint32_t mask, uint8_t *book, size_t book_len);
 
 /*
  * Withdraws the moves of a mask from a book and writes the new book to out. The kept states are those from which a
- * strategy wins with the remaining moves without leaving states kept in the book handed in. The states kept before and
- * lost now are written to drops by rising number, each as a two-byte number, the low byte first. Refusals 1 to 7.
+ * strategy wins with the remaining moves without leaving states kept in the book handed in; its stages and waits have
+ * no part in it. The states kept before and lost now are written to drops by rising number, each as a two-byte number,
+ * the low byte first. Refusals 1 to 7.
  */
 planbook_answer planbook_withdraw(const uint8_t *plant, size_t plant_len, const uint8_t *book, size_t book_len,
                                   uint32_t mask, uint8_t *out, size_t out_len, uint8_t *drops, size_t drops_len);
@@ -126,20 +143,24 @@ planbook_cost planbook_preview(const uint8_t *plant, size_t plant_len, const uin
  * the sought one onward in turn. To ask again for the goal answered gives the same answer. In a book that these
  * calls wrote for a plant, make the move answered and seek the goal answered in the state that follows, from any
  * kept state and any first goal on: that stays in kept states and meets every goal again and again, a goal that is
- * passed there and then, and the goal answered within the wait answered. Refusals 4, 5, 8.
+ * passed there and then, and the goal answered within the wait answered. In a book with stages the stage never rises,
+ * fewer states than the first one's stage says are not settled, and what is said of single goals holds unless an earlier
+ * stage is entered first, or by the move that follows. Takes books of both sorts. Refusals 4, 5, 8.
  */
 planbook_advice planbook_consult(const uint8_t *book, size_t book_len, uint32_t state, uint32_t goal);
 
-/* Where a state's row stands in the book lent. Refusals 4, 5, 8 (the state alone). */
+/* Where a state's row stands in the book lent, of either sort. Refusals 4, 5, 8 (the state alone). */
 planbook_part planbook_row(const uint8_t *book, size_t book_len, uint32_t state);
 
 /*
  * Every good move in a state when a goal is sought, for the goal that consult arrives at: the moves of the book's mask
  * that have an arrow there and all of whose arrows end in states that the book keeps and, where the state's wait for
- * that goal is above 0, with a smaller wait for it. A lost state has none. In a book that these calls wrote for
- * this plant a kept state has at least one, and the lowest is the move that consult gives; any pick, made anew at each
- * step while the goals are sought as consult says, keeps what is said of consult's own move. In any other book a kept
- * state may have none, and the move that consult gives need not be good. Refusals 1 to 5, 8.
+ * that goal is above 0, with a smaller wait for it. In a book with stages no arrow may end in a later stage, and in an
+ * earlier one any wait will do; but if some moves have all their arrows end in earlier stages, these alone are good. A
+ * lost state has none. In a book that these calls wrote for this plant a kept state has at least one, and the lowest is
+ * the move that consult gives; any pick, made anew at each step while the goals are sought as consult says, keeps what
+ * is said of consult's own move. In any other book a kept state may have none, and the move that consult gives need not
+ * be good. Refusals 1 to 5, 8.
  */
 planbook_mask planbook_moves(const uint8_t *plant, size_t plant_len, const uint8_t *book, size_t book_len,
                              uint32_t state, uint32_t goal);

@@ -161,6 +161,38 @@ check("a ring", plant(*around) + masks(1 << 31), "1024 of 1024 kept, 1 moves in 
 
 
 
+# plants that must settle: a state may leave a stage though it is not settled itself, by the lowest move into earlier
+# ones, with wait 0; waits end at the goal, at an earlier stage or at a state of the own stage that can leave
+def settling(name, moves, goals, labels, arrows, rows, given, served):
+    """The listing has these rows, strings with an entry wait/move for each goal, or nothing for a lost state; masks
+    are given, and so many moves are then in service."""
+    lines = ["%d of %d kept, %d moves in service\n" % (sum(map(bool, rows)), len(rows), served)]
+    for x, row in enumerate(rows):
+        entries = ["%d %d %s\n" % (x, i, entry.replace("/", " ")) for i, entry in enumerate(row.split())]
+        lines += entries or ["%d lost\n" % x]
+    check(name, plant(moves, goals, labels, arrows, h7=1) + masks(*given), "".join(lines))
+
+
+DETOUR = [(0, 0, 1), (0, 1, 2), (1, 0, 3), (2, 0, 3), (3, 0, 3)]
+settling("leaving before the goal's rule", 2, 1, [3, 515], [(0, 0, 0), (0, 1, 1), (1, 0, 1)], ["0/1", "0/0"], [3], 2)
+settling("settled again and again", 1, 1, [515, 1], [(0, 0, 0), (0, 0, 1), (1, 0, 0)], ["", ""], [1], 1)
+settling("three stages", 1, 1, [1, 1, 515], [(0, 0, 1), (1, 0, 2), (2, 0, 2)], ["0/0"] * 3, [1], 1)
+settling("a longer way that is settled", 2, 1, [513, 3, 513, 515], DETOUR, ["2/1", "0/0", "1/0", "0/0"], [3], 2)
+settling("the same withdrawn", 2, 1, [513, 3, 513, 515], DETOUR, ["1/0", "0/0", "1/0", "0/0"], [3, 2], 1)
+settling("a wait to a state that can leave", 2, 1, [513, 1, 515],
+         [(0, 0, 0), (0, 1, 1), (0, 1, 2), (1, 0, 2), (2, 0, 2)], ["1/1", "0/0", "0/0"], [3], 2)
+settling("two goals", 2, 2, [515, 1, 519], [(0, 0, 0), (0, 1, 1), (1, 0, 2), (1, 1, 0), (2, 0, 2)],
+         ["0/0 1/1", "0/0 0/0", "0/0 0/0"], [3], 2)
+for label, last, number in [(515, 0, 2), (259, 1, 2), (1539, 1, 2), (3, 2, 1), (3, 256, 1)]:
+    check("label %d, last number %d" % (label, last), plant(1, 1, [label], [(0, 0, 0)], h7=last) + masks(1),
+          "refused %d\n" % number)
+lines = ["%d %d 0 31\n" % (x, goal) for x in range(1024) for goal in range(8)]
+check("every state kept and settled", plant(32, 8, [511 + 512] * 1024, still[3], h7=1) + masks(1 << 31),
+      "1024 of 1024 kept, 1 moves in service\n" + "".join(lines))
+check("1,024 stages", plant(1, 1, [1] * 1023 + [515], [(x, 0, min(x + 1, 1023)) for x in range(1024)], h7=1) + masks(1),
+      "1024 of 1024 kept, 1 moves in service\n" + "".join("%d 0 0 0\n" % x for x in range(1024)))
+
+
 def fault(name, words, **streams):
     """The program, with streams that fail, prints nothing and says this in one line on standard error."""
     run = subprocess.run([PROGRAM], stderr=subprocess.PIPE, check=True, **{"stdout": subprocess.PIPE, **streams})

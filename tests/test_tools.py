@@ -39,6 +39,9 @@ arrow 0 0 -> 1
 arrow 1 0 -> 1
 """
 
+# The same as a plant that must settle, with state 1 settled.
+SETTLE = SMALL.replace("goals 1\n", "goals 1 settle\n").replace("1 allowed", "1 allowed settled")
+
 
 class Case(unittest.TestCase):
     """A test with a folder of its own."""
@@ -95,7 +98,10 @@ def random_plant(seed: int) -> plant.Plant:
     labels = [pick.randrange(1 << (1 + goals)) for _ in range(states)]
     arrows = {(pick.randrange(states), pick.randrange(moves), pick.randrange(states))
               for _ in range(pick.randrange(300))}
-    return plant.Plant(states, moves, goals, labels, sorted(arrows))
+    settles = pick.randrange(2) == 1
+    if settles:
+        labels = [label | pick.choice([0, 512]) for label in labels]
+    return plant.Plant(states, moves, goals, labels, sorted(arrows), settles)
 
 
 class RoundTrips(Case):
@@ -109,8 +115,8 @@ class RoundTrips(Case):
         for name in EXAMPLE_PLANTS:
             written = plant.read_plant(os.path.join(EXAMPLES, name))
             again = plant.from_bytes("b", plant.to_bytes(written))
-            self.assertEqual((again.states, again.moves, again.goals, again.labels, again.arrows),
-                             (written.states, written.moves, written.goals, written.labels, written.arrows))
+            written.state_names, written.move_names, written.goal_names = {}, {}, {}
+            self.assertEqual(again, written)
 
     def test_names_stay_in_the_text(self) -> None:
         written = plant.read_plant(os.path.join(EXAMPLES, "three-orders.plant"))
@@ -170,6 +176,10 @@ class Malformed(Case):
         (SMALL + "state 2 allowed\n", 6, "state is 0 to 1"),
         (SMALL.replace("0 allowed", "0 perhaps"), 2, "'allowed' or 'not-allowed' is expected"),
         (SMALL.replace("state 0 allowed", "state 0"), 2, "ends where 'allowed'"),
+        (SMALL.replace("goals 1\n", "goals 1 settles\n"), 1, "nothing more is expected"),
+        (SMALL.replace("0 allowed", "0 allowed settled"), 2, "settled only where line 1 ends in 'settle'"),
+        (SETTLE.replace("allowed settled", "allowed settled settled"), 3, "nothing more is expected"),
+        (SETTLE.replace("allowed settled goal 0", "allowed goal 0 settled"), 3, "nothing more is expected"),
         (SMALL.replace("goal 0", "goal 1"), 3, "goal is 0 to 0"),
         (SMALL.replace("goal 0", "goal"), 3, "ends where the goal"),
         (SMALL.replace("goal 0", "goal 0 0"), 3, "goal 0 is named twice"),
@@ -223,8 +233,12 @@ class Malformed(Case):
 
     def test_bytes_are_refused_as_planbook_refuses_them(self) -> None:
         good = plant.to_bytes(plant.from_text("t", SMALL.encode()))
-        header = [(0, 0), (0, 1025), (1, 0), (1, 33), (2, 0), (2, 9), (3, 8193), (4, 17), (5, 21), (6, 31), (7, 1)]
+        header = [(0, 0), (0, 1025), (1, 0), (1, 33), (2, 0), (2, 9), (3, 8193), (4, 17), (5, 21), (6, 31), (7, 2),
+                  (7, 256)]
         bad = [(1, changed(good, at, number)) for at, number in header]
+        settle = plant.to_bytes(plant.from_text("t", SETTLE.encode()))
+        bad += [(2, changed(good, 8, 513)), (2, changed(settle, 8, 257)), (2, changed(settle, 8, 517)),
+                (2, changed(settle, 8, 1025)), (2, changed(settle, 7, 0)), (1, changed(settle, 7, 2))]
         bad += [(1, good[:15]), (1, good[:-1]), (1, good + b"\0"), (2, changed(good, 8, 5)), (3, changed(good, 10, 2)),
                 (3, changed(good, 11, 1)), (3, changed(good, 12, 2)), (3, changed(good, 10, 1))]
         for number, data in bad:
@@ -236,6 +250,9 @@ class Malformed(Case):
         text = "plant states 1 moves 1 goals 1\nstate 0 allowed\n"
         code, out, _ = self.call(PLANT_PY, "check", self.write("a.plant", text.encode()))
         self.assertEqual((code, out.count("note:")), (0, 3))
+        text = SETTLE.replace("allowed settled", "allowed")
+        code, out, _ = self.call(PLANT_PY, "check", self.write("a.plant", text.encode()))
+        self.assertEqual((code, out.count("note: the plant must settle and no allowed state is settled")), (0, 1))
 
 
 def changed(data: bytes, at: int, number: int) -> bytes:
@@ -267,6 +284,7 @@ class Run(Case):
                 ("gauge-bands", "0x1f 0x12"): 0, ("lockout", "0x1f"): 5, ("lockout", "0x1f 0x08"): 5,
                 ("lockout", "0x1f 0x1c"): 2, ("may-miss", "0xf"): 3, ("may-miss", "0xf 0x2"): 2,
                 ("three-orders", "0x1f"): 6, ("three-orders", "0x1f 0x10"): 6, ("three-orders", "0x1f 0x04"): 0,
+                ("tight-band", "0x1f"): 7, ("tight-band", "0x1f 0x08"): 7, ("tight-band", "0x1f 0x10"): 6,
                 ("gauge-tension", "0x3f"): 26, ("gauge-tension", "0x3f 0x22"): 17, ("gauge-tension", "0x3f 0x10"): 0}
         for (name, masks), count in kept.items():
             code, out, error = self.call(RUN, self.example(name), *masks.split())
@@ -296,7 +314,7 @@ class Run(Case):
 
     def test_refusals_are_explained(self) -> None:
         data = plant.to_bytes(plant.read_plant(self.example("strip")))
-        self.fails(1, "refused 1: the plant's header", RUN, self.write("a.bin", changed(data, 7, 1)), "7")
+        self.fails(1, "refused 1: the plant's header", RUN, self.write("a.bin", changed(data, 7, 2)), "7")
         self.fails(1, "refused 2: a state's label", RUN, self.write("a.bin", changed(data, 8, 8)), "7")
         self.fails(1, "refused 3: an arrow", RUN, self.write("a.bin", changed(data, 12, 4)), "7")
         self.fails(1, "refused 6: a mask names a move", RUN, self.example("strip"), "8")
@@ -651,6 +669,101 @@ class Machine(Case):
         for script in ('"$0" "$@" <&-', '"$0" "$@" </'):
             self.breaks("standard input could not be read", script, RUN, "-", "7")
         self.breaks("standard input: cannot be read", '"$0" "$@" <&-', PLANT_PY, "check", "-")
+
+
+# The book of examples/tight-band.plant with all moves, and the stages, worked out by hand. Held within the tight band the
+# strip settles (2, 3 and 4); from far thick and thick it gets there at once (0 and 1); after a roll change it may be
+# thick (6), and a worn roll has to be changed first (5).
+TIGHT_BAND = "7 of 8 kept, 5 moves in service\n0 0 0 3\n1 0 0 2\n2 0 1 2\n3 0 0 0\n4 0 1 1\n5 0 1 4\n6 0 0 0\n7 lost\n"
+TIGHT_STAGES = {2: 1, 3: 1, 4: 1, 0: 2, 1: 2, 5: 3, 6: 3}
+
+
+def stages_by_sets(read: plant.Plant, mask: int) -> Dict[int, int]:
+    """The stages of a plant that must settle, by the sets of request (ix), as plainly as can be."""
+    ends: Dict[Tuple[int, int], Set[int]] = {}
+    for start, move, end in read.arrows:
+        if mask >> move & 1:
+            ends.setdefault((start, move), set()).add(end)
+
+    def into(states: Set[int]) -> Set[int]:
+        return {start for (start, _), to in ends.items() if to <= states and read.allowed(start)}
+
+    settled = {state for state in range(read.states) if read.allowed(state) and read.settled(state)}
+    found: Dict[int, int] = {}
+    for stage in range(1, read.states + 1):
+        exits = into(set(found))
+        kept, before = exits | settled, set()
+        while kept != before:
+            before = kept
+            for goal in range(read.goals):
+                reach = exits | {state for state in settled & into(before) if goal in read.goals_of(state)}
+                for _ in range(read.states):
+                    reach |= settled & before & into(reach)
+                kept = kept & reach
+        found.update({state: stage for state in kept if state not in found})
+    return found
+
+
+class Settling(Case):
+    """Plants that must settle: text, listing, stages and picture."""
+
+    def test_the_listing_leaves_stages_out(self) -> None:
+        self.assertEqual(self.call(RUN, self.example("tight-band"), "0x1f"), (0, TIGHT_BAND, ""))
+        with open(os.path.join(TOP, "docs", "USING.md"), encoding="utf-8") as file:
+            shown = f"$ ./run examples/tight-band.plant 0x1f\n{TIGHT_BAND}"
+            self.assertIn("".join(f"    {line}\n" for line in shown.splitlines()), file.read())
+        without = TIGHT_BAND.replace("5 moves", "4 moves").replace("0 0 0 3", "0 0 0 2")
+        self.assertEqual(self.call(RUN, self.example("tight-band"), "0x1f", "0x08"), (0, without, ""))
+
+    def test_cost_and_gain(self) -> None:
+        counts = "1 of 7 kept states would be dropped, 6 would stay kept\n5  tight, worn roll\n"
+        self.assertEqual(self.call(RUN, "--cost", self.example("tight-band"), "0x1f", "0x10"),
+                         (0, "would go out of service: move 4 change roll\n" + counts, ""))
+        counts = "1 of 2 lost states would be gained, 7 would then be kept\n5  tight, worn roll\n"
+        self.assertEqual(self.call(RUN, "--gain", self.example("tight-band"), "0x0f", "0x10"),
+                         (0, "would come back in service: move 4 change roll\n" + counts, ""))
+
+    def test_stages_show_in_the_listing(self) -> None:
+        self.assertEqual(facts.gather("t", plant.read_plant(self.example("tight-band")), [31]).stages, TIGHT_STAGES)
+        pick, most = random.Random(9), 0
+        for _ in range(120):
+            states, moves, goals = pick.choice([3, 5, 8, 12]), pick.choice([1, 2, 3]), pick.choice([1, 2])
+            labels = [1 | pick.choice([0, 512]) | pick.randrange(1 << goals) * 2 for _ in range(states)]
+            arrows = {(pick.randrange(states), pick.randrange(moves), pick.randrange(states))
+                      for _ in range(pick.randrange(states, 3 * states))}
+            read = plant.Plant(states, moves, goals, labels, sorted(arrows), True)
+            stages = facts.gather("t", read, [(1 << moves) - 1]).stages
+            self.assertEqual(stages, stages_by_sets(read, (1 << moves) - 1), plant.to_text(read))
+            most = max([most, *stages.values()])
+        self.assertGreaterEqual(most, 3)
+
+    def test_a_listing_that_never_settles_is_noticed(self) -> None:
+        source = self.write("a.plant", SETTLE.replace("-> 1\narrow 1 0 -> 1", "-> 0\narrow 1 0 -> 1").encode())
+        text = "2 of 2 kept, 1 moves in service\n0 0 1 0\n1 0 0 0\n"
+        env = {"PLANBOOK_BIN": self.program("planner", f"printf '%s' '{text}'")}
+        self.fails(3, "does not add up: its moves may never settle", RUN, "--picture", "-", source, "1", env=env)
+
+    def test_the_picture(self) -> None:
+        code, out, error = self.call(RUN, "--picture", "-", self.example("tight-band"), "0x1f", "0x10")
+        self.assertEqual((code, error), (0, ""))
+        page = xml.fromstring(out)
+        boxes = {int(group.attrib["data-state"]): "".join(group.itertext()) for group in page.iter("g")
+                 if "data-state" in group.attrib}
+        self.assertEqual({state for state, text in boxes.items() if "\u25c6" in text}, {2, 3, 4, 5})
+        self.assertIn("state 6 roll change: kept; not settled, stage 3; wait 0 for goal 0", boxes[6])
+        headings = [text.text for text in page.iter("text") if text.attrib.get("class") == "heading"]
+        self.assertEqual(headings[:4], ["Stage 1, wait 0", "Stage 1, wait 1", "Stage 2, wait 0", "Stage 3, wait 0"])
+        rows = [[cell.text or "" for cell in row.iter("td")] for row in page.iter("tr") if "id" in row.attrib]
+        self.assertEqual([row[3:5] for row in rows][:3], [["no", "2"], ["no", "2"], ["\u25c6 settled", "1"]])
+        # The move out of a stage is a listed one, and not one to go on from the goal.
+        edges = {(edge.attrib["data-from"], edge.attrib["data-to"]): edge.attrib["class"] for edge in page.iter("path")
+                 if "data-from" in edge.attrib}
+        self.assertEqual((edges["6", "1"], edges["3", "2"]), ("edge listed", "edge onward"))
+
+    def test_other_plants_have_no_stages(self) -> None:
+        _, out, _ = self.call(RUN, "--picture", "-", self.example("lockout"), "0x1f")
+        self.assertNotIn("stage", out.lower())
+        self.assertNotIn("\u25c6", out)
 
 
 class Picture(Case):

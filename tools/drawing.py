@@ -33,7 +33,8 @@ def short(text: str, limit: int) -> str:
 
 
 class Diagram:
-    """One goal's drawing. Rows from top to bottom: waits rising, then dropped, lost and not allowed states.
+    """One goal's drawing. Rows from top to bottom: stages rising and within them waits, then dropped, lost and not
+    allowed states.
 
     For the screen it is whole, and its states can be picked; for paper it is kept narrow and given in sheets.
     """
@@ -54,7 +55,8 @@ class Diagram:
         self.entries = self.entry_places()
 
     def listed_sort(self, state: int) -> str:
-        return "onward" if self.facts.entry(state, self.goal).wait == 0 else "listed"
+        at_goal = self.facts.entry(state, self.goal).wait == 0 and not self.facts.leaves(state)
+        return "onward" if at_goal else "listed"
 
     def thin_edges(self) -> Dict[Edge, List[int]]:
         """The arrows that are not listed for this goal: one line for each pair of states and sort, with its moves."""
@@ -68,23 +70,25 @@ class Diagram:
 
     def row_list(self) -> Tuple[List[List[int]], List[Tuple[str, str, int]]]:
         """The rows of states; and for each group of rows its heading, its second line and how many rows it has."""
-        groups: Dict[Tuple[int, str], List[int]] = {}
+        groups: Dict[Tuple[int, int, int], List[int]] = {}
         for state in range(self.facts.plant.states):
             kind = self.facts.kind(state)
-            wait = self.facts.entry(state, self.goal).wait if kind == KEPT else 1 << 16
-            groups.setdefault((wait + KINDS.index(kind), kind), []).append(state)
+            wait = self.facts.entry(state, self.goal).wait if kind == KEPT else 0
+            groups.setdefault((KINDS.index(kind), self.facts.stages.get(state, 0), wait), []).append(state)
         rows: List[List[int]] = []
         headings: List[Tuple[str, str, int]] = []
-        for (wait, kind), states in sorted(groups.items()):
+        for (kind, stage, wait), states in sorted(groups.items()):
             parts = [states[at:at + self.per_row] for at in range(0, len(states), self.per_row)]
             rows += parts
-            headings.append((*self.heading(kind, wait), len(parts)))
+            headings.append((*self.heading(KINDS[kind], stage, wait), len(parts)))
         return rows, headings
 
-    def heading(self, kind: str, wait: int) -> Tuple[str, str]:
+    def heading(self, kind: str, stage: int, wait: int) -> Tuple[str, str]:
         if kind == KEPT:
             under = f"in goal {self.goal}" if wait == 0 else "move to go" if wait == 1 else "moves to go, at most"
-            return f"Wait {wait}", under
+            if wait == 0 and stage > 1:
+                under += ", or leaves"
+            return (f"Stage {stage}, wait {wait}" if self.facts.plant.settles else f"Wait {wait}"), under
         return {DROPPED: ("Dropped", "lost by withdrawal"), LOST: ("Lost", "from the start"),
                 NOT_ALLOWED: ("Not allowed", "always lost")}[kind]
 
@@ -185,6 +189,8 @@ class Diagram:
                          f'height="{HEIGHT - 8}" rx="4"/>')
         parts.append(f'<text x="{left + 10:.1f}" y="{y - 3:.1f}"><tspan class="number">{state}</tspan> {name}</text>')
         parts.append(f'<text class="word" x="{left + 10:.1f}" y="{y + 16:.1f}">{word}</text>')
+        if facts.plant.settled(state):
+            parts.append(f'<text class="ingoal" x="{x + WIDTH / 2 - 10:.1f}" y="{y - 3:.1f}">◆</text>')
         if goals:
             served = "goal " + ", ".join(str(goal) for goal in goals) if len(goals) <= 3 else f"{len(goals)} goals"
             parts.append(f'<text class="ingoal" x="{x + WIDTH / 2 - 10:.1f}" y="{y + 16:.1f}">★ {served}</text>')
@@ -382,7 +388,8 @@ def cell(facts: Facts, state: int, goal: int) -> str:
     x, y = state % COLUMNS * CELL_WIDTH + 1, state // COLUMNS * CELL_HEIGHT + 1
     star = "★" if kind == KEPT and goal in facts.plant.goals_of(state) else ""
     word = f"w {facts.entry(state, goal).wait}{star}" if kind == KEPT else SHORT[kind]
+    mark = f'<text class="mark" x="{x + CELL_WIDTH - 8}" y="{y + 9}">◆</text>' * facts.plant.settled(state)
     return (f'<a href="#s{state}"><g class="cell {kind}"><title>{escape(facts.sentence(state, goal))}</title>'
-            f'<rect x="{x}" y="{y}" width="{CELL_WIDTH - 2}" height="{CELL_HEIGHT - 2}" rx="3"/>'
+            f'<rect x="{x}" y="{y}" width="{CELL_WIDTH - 2}" height="{CELL_HEIGHT - 2}" rx="3"/>{mark}'
             f'<text class="number" x="{x + CELL_WIDTH / 2 - 1}" y="{y + 14}">{state}</text>'
             f'<text class="word" x="{x + CELL_WIDTH / 2 - 1}" y="{y + 27}">{word}</text></g></a>')

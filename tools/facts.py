@@ -5,7 +5,7 @@ from __future__ import annotations
 from dataclasses import dataclass
 from typing import Dict, List, Sequence, Set, Tuple
 
-from listing import Book, Entry, book, dropped, ends_of, service
+from listing import Book, Entry, PlannerError, book, dropped, ends_of, service
 from plant import Plant
 
 KEPT, DROPPED, LOST, NOT_ALLOWED = "kept", "dropped", "lost", "not-allowed"
@@ -20,6 +20,7 @@ class Facts:
     dropped: Set[int]
     last: Book
     ends: Dict[Tuple[int, int], List[int]]
+    stages: Dict[int, int]  # of the kept states
 
     def in_service(self, move: int) -> bool:
         return service(self.masks) >> move & 1 == 1
@@ -42,6 +43,10 @@ class Facts:
         """Where the move listed for a kept state may lead."""
         return self.ends.get((state, self.entry(state, goal).move), [])
 
+    def leaves(self, state: int) -> bool:
+        """Whether a kept state's move leads wholly into earlier stages: of its stage those do that are not settled."""
+        return self.plant.settles and not self.plant.settled(state)
+
     def move_text(self, move: int) -> str:
         return named("move", move, self.plant.move_names)
 
@@ -59,14 +64,40 @@ class Facts:
             return f"{self.state_text(state)}: {why[kind]}"
         entry = self.entry(state, goal)
         ends = ranges(self.listed_ends(state, goal))
-        return f"{self.state_text(state)}: kept; wait {entry.wait} for goal {goal}; " \
+        stage = ""
+        if self.plant.settles:
+            settled = "settled" if self.plant.settled(state) else "not settled"
+            stage = f" {settled}, stage {self.stages[state]};"
+        return f"{self.state_text(state)}: kept;{stage} wait {entry.wait} for goal {goal}; " \
                f"{self.move_text(entry.move)}, leads to {ends}"
 
 
 def gather(title: str, plant: Plant, masks: List[int]) -> Facts:
     """Two runs of planbook: with the first mask alone, and with all."""
-    first, last = book(plant, masks[:1]), book(plant, masks)
-    return Facts(title, plant, masks, set(dropped(first, last)), last, ends_of(plant))
+    first, last, ends = book(plant, masks[:1]), book(plant, masks), ends_of(plant)
+    return Facts(title, plant, masks, set(dropped(first, last)), last, ends, stages(plant, last, ends))
+
+
+def stages(plant: Plant, last: Book, ends: Dict[Tuple[int, int], List[int]]) -> Dict[int, int]:
+    """The kept states' stages: one more than the most states that are not settled, itself included, that the listed
+    moves can lead through. The listing leaves them out, and this is how they show in it."""
+    after = {state: {end for entry in row for end in ends.get((state, entry.move), [])}
+             for state, row in last.rows.items()}
+    before: Dict[int, Set[int]] = {state: set() for state in after}
+    for state, states in after.items():
+        for end in states & after.keys():
+            before[end].add(state)
+    found = {state: 1 for state in after}
+    waiting = sorted(after) if plant.settles else []
+    while waiting:
+        state = waiting.pop()
+        stage = max(found[end] for end in after[state]) + (not plant.settled(state))
+        if stage > plant.states:
+            raise PlannerError("planbook's listing does not add up: its moves may never settle")
+        if stage > found[state]:
+            found[state] = stage
+            waiting += before[state]
+    return found
 
 
 def named(kind: str, number: int, names: Dict[int, str]) -> str:

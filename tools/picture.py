@@ -127,13 +127,18 @@ def on_sheets(facts: Facts, goal: int, drawings: List[str]) -> str:
 def legend(facts: Facts) -> List[str]:
     """What the colours, words and lines mean."""
     plain = not collapsed(facts)
-    lines = [chip(KEPT, "kept", "can be brought to every goal, again and again"),
+    settles = facts.plant.settles
+    lines = [chip(KEPT, "kept", "can be brought to every goal, again and again" + ", and settles" * settles),
              chip(DROPPED, "DROPPED" if plain else "DROP", "kept with the first mask, lost since a withdrawal"),
              chip(LOST, "LOST" if plain else "lost", "allowed, but lost with the first mask already"),
              chip(NOT_ALLOWED, "NOT ALLOWED" if plain else "n.a.",
                   "not allowed: strip must never be here; always lost"),
-             f"<div><b>{'wait 3' if plain else 'w 3'}</b> the goal is met within 3 moves, whatever happens</div>",
+             f"<div><b>{'wait 3' if plain else 'w 3'}</b> the goal is met{', or the stage left,' * settles} within 3 "
+             "moves, whatever happens</div>",
              "<div><b>★</b> the state is in the goal</div>"]
+    if settles:
+        lines += ["<div><b>◆</b> the state is settled: in the end strip stays in such states</div>",
+                  "<div><b>stage 2</b> at most 1 state that is not settled is still to come, this one counted</div>"]
     if plain:
         lines += [stroke("listed", "the listed move (label on the box): make this; any of its arrows may be followed"),
                   stroke("onward", "the listed move in a goal state: to go on from there when every goal is met"),
@@ -155,8 +160,9 @@ def table(facts: Facts) -> List[str]:
     """One row for each state: for each goal the wait, the move and where it may lead."""
     heads = "".join(f"<th>{escape(facts.goal_text(goal))}: wait, move</th>" for goal in range(facts.plant.goals))
     name = "<th>name</th>" if facts.plant.state_names else ""
+    stage = "<th>settled</th><th>stage</th>" if facts.plant.settles else ""
     parts = ['<div class="all">', "<h2>All states</h2>",
-             f"<table><thead><tr><th>state</th>{name}<th>book</th>{heads}</tr></thead><tbody>"]
+             f"<table><thead><tr><th>state</th>{name}<th>book</th>{stage}{heads}</tr></thead><tbody>"]
     parts += [table_row(facts, state) for state in range(facts.plant.states)]
     return parts + ["</tbody></table>", "</div>"]
 
@@ -167,11 +173,18 @@ def table_row(facts: Facts, state: int) -> str:
     start = f'<tr id="s{state}" class="{kind}"><td class="number"><b>{state}</b></td>{name}'
     if kind == KEPT:
         cells = "".join(f"<td>{table_entry(facts, state, goal)}</td>" for goal in range(facts.plant.goals))
-        return f"{start}<td>kept</td>{cells}</tr>"
+        return f"{start}<td>kept</td>{stage_cells(facts, state)}{cells}</tr>"
     why = {DROPPED: "lost since a withdrawal", LOST: "lost with the first mask already",
            NOT_ALLOWED: "lost: not allowed"}[kind]
     word = "<b>DROPPED</b>" if kind == DROPPED else "lost"
-    return f'{start}<td>{word}</td><td colspan="{facts.plant.goals}">{why}</td></tr>'
+    return f'{start}<td>{word}</td>{stage_cells(facts, state)}<td colspan="{facts.plant.goals}">{why}</td></tr>'
+
+
+def stage_cells(facts: Facts, state: int) -> str:
+    """In a plant that must settle: whether the state is settled, and its stage."""
+    if not facts.plant.settles:
+        return ""
+    return f"<td>{'◆ settled' if facts.plant.settled(state) else 'no'}</td><td>{facts.stages.get(state, '')}</td>"
 
 
 def table_entry(facts: Facts, state: int, goal: int) -> str:

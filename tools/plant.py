@@ -28,6 +28,7 @@ MAX_GOALS = 8
 MAX_ARROWS = 8192
 MAX_FILE = 8 * 1024 * 1024  # no plant needs a longer file, comments included
 MAX_NAME = 40
+SETTLED = 1 << 9  # the label's bit for a settled state, in a plant that must settle
 ENDS_ON_A_LINE = 16
 HEADER = struct.Struct("<8H")
 ARROW = struct.Struct("<3H")
@@ -45,19 +46,24 @@ class PlantError(Failure):
 
 @dataclass
 class Plant:
-    """A plant and the names its text gives. Arrows ascend by from, then move, then to."""
+    """A plant and the names its text gives. Arrows ascend by from, then move, then to. One that must settle has 1 as
+    its last header number."""
 
     states: int
     moves: int
     goals: int
     labels: List[int]
     arrows: List[Arrow]
+    settles: bool = False
     state_names: Dict[int, str] = field(default_factory=dict)
     move_names: Dict[int, str] = field(default_factory=dict)
     goal_names: Dict[int, str] = field(default_factory=dict)
 
     def allowed(self, state: int) -> bool:
         return self.labels[state] & 1 == 1
+
+    def settled(self, state: int) -> bool:
+        return self.labels[state] & SETTLED != 0
 
     def goals_of(self, state: int) -> List[int]:
         return [goal for goal in range(self.goals) if self.labels[state] >> (1 + goal) & 1]
@@ -187,8 +193,11 @@ class TextReader:
         moves = line.count("number of moves", 1, MAX_MOVES)
         line.expect("goals")
         goals = line.count("number of goals", 1, MAX_GOALS)
+        settles = line.next_is("settle")
+        if settles:
+            line.expect("settle")
         line.end()
-        return Plant(states, moves, goals, [0] * states, [])
+        return Plant(states, moves, goals, [0] * states, [], settles)
 
     def state(self, line: Line, plant: Plant) -> None:
         line.expect("state")
@@ -199,10 +208,20 @@ class TextReader:
         kind = line.take("'allowed' or 'not-allowed'")
         if kind not in ("allowed", "not-allowed"):
             line.fail(f"'allowed' or 'not-allowed' is expected, found {shown(kind)}")
-        plant.labels[state] = (1 if kind == "allowed" else 0) | self.goal_bits(line, plant)
+        plant.labels[state] = (1 if kind == "allowed" else 0) | self.settled_bit(line, plant)
+        plant.labels[state] |= self.goal_bits(line, plant)
         name = line.name()
         if name is not None:
             plant.state_names[state] = name
+
+    def settled_bit(self, line: Line, plant: Plant) -> int:
+        """The label bit of a state that is settled."""
+        if not line.next_is("settled"):
+            return 0
+        line.take("'settled'")
+        if not plant.settles:
+            line.fail(f"a state is settled only where line {self.plant_line} ends in 'settle'")
+        return SETTLED
 
     def goal_bits(self, line: Line, plant: Plant) -> int:
         """The label bits of the goals that a state line names."""
@@ -270,7 +289,7 @@ def from_text(path: str, data: bytes) -> Plant:
 
 def to_text(plant: Plant) -> str:
     """A plant's text, in the order of the numbers."""
-    lines = [f"plant states {plant.states} moves {plant.moves} goals {plant.goals}", ""]
+    lines = [f"plant states {plant.states} moves {plant.moves} goals {plant.goals}" + " settle" * plant.settles, ""]
     lines += [f'goal {goal} "{name}"' for goal, name in sorted(plant.goal_names.items())]
     lines += [f'move {move} "{name}"' for move, name in sorted(plant.move_names.items())]
     lines += [state_line(plant, state) for state in range(plant.states)]
@@ -280,6 +299,7 @@ def to_text(plant: Plant) -> str:
 
 def state_line(plant: Plant, state: int) -> str:
     words = ["state", str(state), "allowed" if plant.allowed(state) else "not-allowed"]
+    words += ["settled"] * plant.settled(state)
     goals = plant.goals_of(state)
     if goals:
         words += ["goal" if len(goals) == 1 else "goals"] + [str(goal) for goal in goals]
@@ -308,18 +328,19 @@ def to_bytes(plant: Plant) -> bytes:
     """A plant's bytes: eight header numbers, a label for each state, the arrows."""
     arrows_at = 16 + 2 * plant.states
     length = arrows_at + 6 * len(plant.arrows)
-    header = HEADER.pack(plant.states, plant.moves, plant.goals, len(plant.arrows), 16, arrows_at, length, 0)
+    counts = plant.states, plant.moves, plant.goals, len(plant.arrows)
+    header = HEADER.pack(*counts, 16, arrows_at, length, plant.settles)
     labels = struct.pack(f"<{plant.states}H", *plant.labels)
     return header + labels + b"".join(ARROW.pack(*arrow) for arrow in plant.arrows)
 
 
 def from_bytes(path: str, data: bytes) -> Plant:
     """The plant of these bytes, refused as planbook refuses it: 1 the header, 2 a label, 3 an arrow."""
-    states, moves, goals, count = checked_header(path, data)
+    states, moves, goals, count, last = checked_header(path, data)
     arrows_at = 16 + 2 * states
     labels = list(struct.unpack(f"<{states}H", data[16:arrows_at]))
     for state, label in enumerate(labels):
-        if label >> (1 + goals):
+        if (label & ~(SETTLED * last)) >> (1 + goals):
             refuse(path, 2, f"the label of state {state} has a bit for a goal that the plant does not have")
     arrows = [stored_arrow(data, arrows_at + 6 * at) for at in range(count)]
     for at, (start, move, end) in enumerate(arrows):
@@ -327,7 +348,7 @@ def from_bytes(path: str, data: bytes) -> Plant:
             refuse(path, 3, f"arrow number {at} ({start}, {move}, {end}) has a state or move out of range")
         if at > 0 and arrows[at - 1] >= arrows[at]:
             refuse(path, 3, f"arrow number {at} ({start}, {move}, {end}) does not come after the one before it")
-    return Plant(states, moves, goals, labels, arrows)
+    return Plant(states, moves, goals, labels, arrows, last == 1)
 
 
 def stored_arrow(data: bytes, at: int) -> Arrow:
@@ -335,23 +356,24 @@ def stored_arrow(data: bytes, at: int) -> Arrow:
     return start, move, end
 
 
-def checked_header(path: str, data: bytes) -> Tuple[int, int, int, int]:
-    """S, U, N and E of a plant whose header is in order."""
+def checked_header(path: str, data: bytes) -> Tuple[int, int, int, int, int]:
+    """S, U, N, E and the last number of a plant whose header is in order."""
     if len(data) < 16:
         refuse(path, 1, f"a plant has at least 16 bytes, this file has {len(data)}")
     states, moves, goals, count, labels_at, arrows_at, length, last = HEADER.unpack_from(data)
     for what, number, low, high in (("states", states, 1, MAX_STATES), ("moves", moves, 1, MAX_MOVES),
-                                    ("goals", goals, 1, MAX_GOALS), ("arrows", count, 0, MAX_ARROWS)):
+                                    ("goals", goals, 1, MAX_GOALS), ("arrows", count, 0, MAX_ARROWS),
+                                    ("as its last number", last, 0, 1)):
         if not low <= number <= high:
             refuse(path, 1, f"the header has {number} {what}, allowed are {low} to {high}")
     whole = 16 + 2 * states + 6 * count
     for what, number, right in (("offset of labels", labels_at, 16), ("offset of arrows", arrows_at, 16 + 2 * states),
-                                ("total length", length, whole), ("last number", last, 0)):
+                                ("total length", length, whole)):
         if number != right:
             refuse(path, 1, f"the header's {what} is {number} and should be {right}")
     if len(data) != whole:
         refuse(path, 1, f"the header says {whole} bytes, the file has {len(data)}")
-    return states, moves, goals, count
+    return states, moves, goals, count, last
 
 
 def refuse(path: str, number: int, reason: str) -> NoReturn:
@@ -451,6 +473,8 @@ def notes(plant: Plant) -> List[str]:
     stuck = [state for state in range(plant.states) if plant.allowed(state) and state not in leaving]
     found = [f"goal {goal} has no allowed state, so every state is lost"
              for goal in range(plant.goals) if goal not in served]
+    if plant.settles and not any(plant.allowed(state) and plant.settled(state) for state in range(plant.states)):
+        found.append("the plant must settle and no allowed state is settled, so every state is lost")
     found += [f"move {move} has no arrow" for move in range(plant.moves) if move not in used]
     if stuck:
         some = ", ".join(str(state) for state in stuck[:10]) + (" and more" if len(stuck) > 10 else "")

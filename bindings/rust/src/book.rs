@@ -6,7 +6,7 @@ use crate::calls::{mask_bytes, Calls, Linked};
 use crate::sys::{Answer, LONGEST_BOOK, LONGEST_LIST};
 use crate::Refusal;
 
-/// Both places of an entry of a lost state.
+/// Both places of an entry of a lost state, and its stage.
 const LOST: u16 = u16::MAX;
 
 /// What a book says for a state and the goal sought.
@@ -22,7 +22,8 @@ pub enum Advice {
     Move {
         /// The move to make for the goal arrived at.
         action: u16,
-        /// At most so many moves until the goal arrived at is met; 0 exactly if the state serves all goals.
+        /// At most so many moves until the goal arrived at is met; 0 exactly if the state serves all goals. In a book
+        /// with stages, until that goal is met or an earlier stage is entered or can be by the next move.
         wait: u16,
         /// The goal arrived at: the one to seek, now and after the move.
         seek: u16,
@@ -68,7 +69,9 @@ pub struct Preview {
 /// An entry of a kept state's row.
 #[derive(Clone, Copy, Debug, PartialEq, Eq, Hash)]
 pub struct Entry {
-    /// The least number of moves that forces the goal; 0 if the state is in it.
+    /// The least number of moves that forces the goal; 0 if the state is in it. In a book with stages, the least number
+    /// that forces, through no later stage, the goal, an earlier stage or a state that has a move wholly into earlier
+    /// ones; 0 for every goal in such a state.
     pub wait: u16,
     /// The move to make.
     pub action: u16,
@@ -86,8 +89,8 @@ fn written(answer: Answer) -> Result<Withdrawn, Refusal> {
     Ok(Withdrawn { length: answer.length as usize, drops: answer.drops as usize })
 }
 
-/// Writes the book of `plant` with the moves of `mask` in service to the start of `book`, and answers its length. A
-/// refused call writes nothing.
+/// Writes the book of `plant` with the moves of `mask` in service to the start of `book`, and answers its length: 16 +
+/// 4SN bytes, and 2S more for a plant that must settle. A refused call writes nothing.
 ///
 /// ```
 /// let plant = planbook::plants::strip().bytes();
@@ -201,7 +204,9 @@ pub fn preview_into(plant: &[u8], book: &[u8], mask: u32, drops: &mut [u8]) -> R
 /// What the book says for a state and the goal sought, when the goals that the state serves are passed: see [`Advice`].
 ///
 /// In a book that make, withdraw or return wrote for the plant, all goals are met again and again if the goal that it
-/// says to seek is the one sought in the next state.
+/// says to seek is the one sought in the next state. If the plant must settle, the stage never rises besides, and fewer
+/// states on the way are not settled than the first one's stage says. A state that leaves its stage serves all goals,
+/// whether it is in them or not. Books with and without stages are read alike.
 ///
 /// ```
 /// use planbook::Advice;
@@ -222,7 +227,8 @@ pub fn consult(book: &[u8], state: u32, goal: u32) -> Result<Advice, Refusal> {
     }
 }
 
-/// The state's row, as the part of the book lent: for each goal the wait and the move, as two-byte numbers.
+/// The state's row, as the part of the book lent: for each goal the wait and the move, as two-byte numbers; in a book
+/// with stages the stage before them. A lost state has 65,535 in all these places.
 ///
 /// ```
 /// let plant = planbook::plants::strip().bytes();
@@ -230,6 +236,11 @@ pub fn consult(book: &[u8], state: u32, goal: u32) -> Result<Advice, Refusal> {
 /// planbook::make_into(&plant, 0b111, &mut book)?;
 /// assert_eq!(planbook::row(&book, 1)?, [1, 0, 2, 0, 1, 0, 0, 0]);
 /// assert_eq!(planbook::row(&book, 4), Err(planbook::Refusal::OutOfBook));
+///
+/// let plant = planbook::plants::band().bytes(); // it must settle, so that its rows open with a stage
+/// let mut book = [0; 46];
+/// planbook::make_into(&plant, 0b11, &mut book)?;
+/// assert_eq!(planbook::row(&book, 0)?, [2, 0, 0, 0, 0, 0, 1, 0, 1, 0]);
 /// # Ok::<(), planbook::Refusal>(())
 /// ```
 pub fn row(book: &[u8], state: u32) -> Result<&[u8], Refusal> {
@@ -243,6 +254,9 @@ pub fn row(book: &[u8], state: u32) -> Result<&[u8], Refusal> {
 /// have an arrow there and all of whose arrows end in states that the book keeps and, above wait 0, with a smaller wait
 /// for the goal arrived at, which is the one that [`consult`] says to seek. A lost state has none.
 ///
+/// In a book with stages a smaller wait counts in the state's own stage, and no arrow may end in a later one; in an
+/// earlier one any wait will do. If there are moves all of whose arrows end in earlier stages, these alone are good.
+///
 /// In a book that make, withdraw or return wrote for this plant a kept state has at least one, the lowest is the one
 /// that consult gives, and any pick, made anew at each step for the goal that consult says to seek, keeps what the book
 /// promises. A book that came about otherwise is read as it stands, and there a kept state may have none.
@@ -255,6 +269,11 @@ pub fn row(book: &[u8], state: u32) -> Result<&[u8], Refusal> {
 /// assert_eq!(planbook::good_moves(&plant, &book, 1, 0)?, 0b100); // move 0 comes no nearer, and move 1 leads to state 3
 /// assert_eq!(planbook::good_moves(&plant, &book, 3, 0)?, 0); // lost
 /// assert_eq!(planbook::good_moves(&plant, &book, 4, 0), Err(planbook::Refusal::OutOfBook));
+///
+/// let plant = planbook::plants::band().bytes();
+/// let mut book = [0; 46];
+/// planbook::make_into(&plant, 0b11, &mut book)?;
+/// assert_eq!(planbook::good_moves(&plant, &book, 1, 0)?, 0b01); // move 0 leaves the stage, and move 1 does not
 /// # Ok::<(), planbook::Refusal>(())
 /// ```
 pub fn good_moves(plant: &[u8], book: &[u8], state: u32, goal: u32) -> Result<u32, Refusal> {
@@ -282,6 +301,8 @@ pub fn good_moves(plant: &[u8], book: &[u8], state: u32, goal: u32) -> Result<u3
 /// assert_eq!(rest.return_moves(0b001)?, (book, dropped)); // all are back
 /// # Ok::<(), planbook::Refusal>(())
 /// ```
+///
+/// The book of a plant that must settle has stages, see [`Book::stage`]; for one that need not it has none.
 #[derive(Clone, Debug, PartialEq, Eq)]
 pub struct Book {
     plant: Arc<[u8]>,
@@ -297,8 +318,9 @@ impl Book {
         Ok(Book { plant: plant.into(), bytes })
     }
 
-    /// A book from bytes that were kept elsewhere, if the library accepts them as a book for the plant. Whether they are
-    /// those that make, withdraw or return would write is not looked at.
+    /// A book from bytes that were kept elsewhere, if the library accepts them as a book for the plant, which has stages
+    /// exactly if the plant must settle. Whether they are those that make, withdraw or return would write is not looked
+    /// at.
     ///
     /// ```
     /// use planbook::{Book, Refusal};
@@ -417,11 +439,62 @@ impl Book {
     }
 
     /// The rows of the states in rising order: a kept state's entries, one for each goal, or `None` for a lost state.
+    /// Stages are left out; see [`Book::stages`].
     pub fn rows(&self) -> impl Iterator<Item = Option<impl Iterator<Item = Entry> + '_>> + '_ {
-        self.bytes[16..].chunks_exact(4 * usize::from(self.goals())).map(|row| {
+        let opening = if self.has_stages() { 2 } else { 0 };
+        self.row_bytes().map(move |row| {
             let entry = |pair: &[u8]| Entry { wait: number(pair, 0), action: number(pair, 2) };
-            (number(row, 0) != LOST).then(|| row.chunks_exact(4).map(entry))
+            (number(row, 0) != LOST).then(|| row[opening..].chunks_exact(4).map(entry))
         })
+    }
+
+    /// Whether rows open with a stage: whether the book is for a plant that must settle. Its length tells.
+    pub fn has_stages(&self) -> bool {
+        self.row_length() != 4 * usize::from(self.goals())
+    }
+
+    /// The stage of a state, from 1 to the number of states; `None` for a lost state, and in a book without stages.
+    ///
+    /// From a kept state on, fewer states that are not settled follow than its stage says: in stage 1 there is none.
+    ///
+    /// ```
+    /// use planbook::{Book, Refusal};
+    ///
+    /// let plant = planbook::plants::band().bytes(); // three states; state 2 is settled and can be stayed in
+    /// let book = Book::make(&plant, 0b11)?;
+    /// assert!(book.has_stages());
+    /// assert_eq!((book.stage(0)?, book.stage(1)?, book.stage(2)?), (Some(2), Some(2), Some(1)));
+    /// assert_eq!(book.stage(3), Err(Refusal::OutOfBook));
+    ///
+    /// let (book, dropped) = book.withdraw(0b01)?; // without move 0 there is no way to stay
+    /// assert_eq!((book.stage(2)?, dropped), (None, vec![0, 1, 2]));
+    ///
+    /// let book = Book::make(&planbook::plants::strip().bytes(), 0b111)?; // it need not settle
+    /// assert_eq!((book.has_stages(), book.stage(0)?), (false, None));
+    /// # Ok::<(), Refusal>(())
+    /// ```
+    pub fn stage(&self, state: u16) -> Result<Option<u16>, Refusal> {
+        self.row(state).map(|row| self.stage_of(row))
+    }
+
+    /// The stages of the states in rising order; see [`Book::stage`].
+    pub fn stages(&self) -> impl Iterator<Item = Option<u16>> + '_ {
+        self.row_bytes().map(|row| self.stage_of(row))
+    }
+
+    /// The stage that a row opens with, if it is kept and opens with one.
+    fn stage_of(&self, row: &[u8]) -> Option<u16> {
+        Some(number(row, 0)).filter(|&stage| self.has_stages() && stage != LOST)
+    }
+
+    /// The rows in rising order.
+    fn row_bytes(&self) -> impl Iterator<Item = &[u8]> + '_ {
+        self.bytes[16..].chunks_exact(self.row_length())
+    }
+
+    /// How many bytes a row has.
+    fn row_length(&self) -> usize {
+        (self.bytes.len() - 16) / usize::from(self.states())
     }
 
     /// How many states there are.

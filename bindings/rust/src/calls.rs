@@ -4,7 +4,8 @@
 use crate::sys::{Advice, Answer, Cost, Mask, Part};
 
 /// A planner: make, withdraw and row as document 01 has them, and moves, preview, consult, the list of withdrawals and
-/// the return of moves as requests (i), (iv), (v), (vi) and (vii) of document 02 do, on raw bytes.
+/// the return of moves as requests (i), (iv), (v), (vi) and (vii) of document 02 do, on raw bytes; for plants that must
+/// settle, as request (ix) has them, too.
 pub trait Calls {
     /// A short name for tables and messages.
     fn name(&self) -> &'static str;

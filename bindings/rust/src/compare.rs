@@ -7,7 +7,7 @@
 use std::fmt::Debug;
 
 use crate::calls::Calls;
-use crate::second::format::{number, read_masks, together, LOST};
+use crate::second::format::{in_mask, number, read_masks, together, BookView, Plant, LOST};
 use crate::sys::{Advice, Answer, Cost, Mask, Part, LONGEST_BOOK, LONGEST_LIST};
 
 pub mod rounds;
@@ -45,6 +45,12 @@ pub struct Comparison<'a> {
     gaining: u64,
     /// Such returns whose book has lost a state that the book handed in keeps, which is then one that nobody made.
     losing: u64,
+    /// Books written that have stages and keep states.
+    staged: u64,
+    /// Such books with two stages or more.
+    deep: u64,
+    /// Sets of good moves that lead to earlier stages alone.
+    leaving: u64,
 }
 
 /// A buffer with watched bytes on each side, filled with a pattern.
@@ -99,6 +105,9 @@ impl<'a> Comparison<'a> {
             returns: 0,
             gaining: 0,
             losing: 0,
+            staged: 0,
+            deep: 0,
+            leaving: 0,
         }
     }
 
@@ -122,18 +131,25 @@ impl<'a> Comparison<'a> {
         [self.gaining, self.losing]
     }
 
+    /// How many books written have stages and keep states, how many of them have two stages or more, and how many sets
+    /// of good moves lead to earlier stages alone.
+    pub fn stages(&self) -> [u64; 3] {
+        [self.staged, self.deep, self.leaving]
+    }
+
     /// What was compared so far, in words.
     pub fn summary(&self) -> String {
         let [ours, second] = [self.ours, self.second].map(|planner| planner.name());
         let Comparison { calls, refused, mixed, partial, previewed, choices, passes, all_served, .. } = self;
-        let Comparison { lists, late, repeated, returns, gaining, losing, .. } = self;
+        let Comparison { lists, late, repeated, returns, gaining, losing, staged, deep, leaving, .. } = self;
         format!(
             "{ours} and {second} do not differ in {calls} calls, of which {refused} are refused, {mixed} write a book \
              with kept and lost states, {partial} drop some states and keep others, {previewed} preview that, \
              {choices} find more than one good move, {passes} consults pass goals, {all_served} find all of several \
              goals served, {lists} are accepted lists of withdrawals, in {late} of which one after the first drops \
              states and in {repeated} two or more do, and {returns} are accepted returns, of which {gaining} list \
-             states and {losing} have lost a state that the book handed in keeps"
+             states and {losing} have lost a state that the book handed in keeps; {staged} write a book with stages \
+             that keeps states, {deep} of them two stages or more, and {leaving} find good moves that leave a stage"
         )
     }
 
@@ -359,6 +375,7 @@ impl<'a> Comparison<'a> {
         }
         self.count(sets[0].number);
         self.choices += u64::from(sets[0].mask.count_ones() > 1);
+        self.leaving += u64::from(sets[0].mask != 0 && leaves(plant, book, state, sets[0].mask));
         sets[0]
     }
 
@@ -410,6 +427,9 @@ impl<'a> Comparison<'a> {
         if answer.number == 0 {
             let (states, kept) = (number(&book, 0).into(), kept_count(&book));
             self.mixed += u64::from(kept != 0 && kept != states);
+            let latest = latest_stage(&book);
+            self.staged += u64::from(latest > 0);
+            self.deep += u64::from(latest > 1);
         }
         (answer, book)
     }
@@ -495,9 +515,32 @@ fn list_states(states: impl Iterator<Item = u16>, list: &mut [u8]) -> u32 {
     bytes.len() as u32 / 2
 }
 
-/// Whether a state's row is not lost.
+/// Whether a state's row is not lost: its first number says so, whether that is a stage or a wait.
 fn is_kept(book: &[u8], state: u16) -> bool {
-    number(book, 16 + 4 * usize::from(state) * usize::from(number(book, 4))) != LOST
+    let row_length = (book_length(book) - 16) / usize::from(number(book, 0));
+    number(book, 16 + row_length * usize::from(state)) != LOST
+}
+
+/// How long a book is, by its header.
+fn book_length(book: &[u8]) -> usize {
+    number(book, 14).into()
+}
+
+/// The latest stage of a book that was written; 0 if it has no stages, or keeps no state.
+fn latest_stage(book: &[u8]) -> u16 {
+    let rows = BookView::read(book, None).ok().filter(|rows| rows.has_stages);
+    let latest = |rows: BookView| (0..rows.states).map(|state| rows.stage(state)).filter(|&stage| stage != LOST).max();
+    rows.and_then(latest).unwrap_or(0)
+}
+
+/// Whether all arrows of these moves of a state end in earlier stages than its own.
+fn leaves(plant: &[u8], book: &[u8], state: u32, mask: u32) -> bool {
+    let rows = BookView::read(book, None).ok().filter(|rows| rows.has_stages);
+    rows.zip(Plant::read(plant).ok()).is_some_and(|(rows, plant)| {
+        let state = state as usize;
+        let actions = (0..32).filter(|&action| in_mask(mask, action));
+        actions.flat_map(|action| plant.ends(state, action)).all(|end| rows.stage(end) < rows.stage(state))
+    })
 }
 
 /// The input of a call on one planner alone, which is held against something else that the same planner says.

@@ -5,6 +5,10 @@
 //! region) or lost, and for a kept state and each goal the move to make and the wait, the least number of moves that
 //! forces the goal. Both are bytes; their formats are in the repository's docs/FORMATS.md.
 //!
+//! A plant may ask in addition that every run *settles*: that from some moment on all its states are settled ones, as
+//! their labels say. Its books have *stages*: a kept state of stage 1 needs settled states alone, and one of a later
+//! stage passes through fewer states that are not settled than the stage says. See [`Book::stage`].
+//!
 //! With the feature `linked`, which is on by default, [`Book`] and the functions [`make_into`], [`withdraw_into`],
 //! [`withdraw_list_into`], [`return_into`], [`preview_into`], [`consult`], [`row`] and [`good_moves`] call the proved
 //! library. They take slices, answer a [`Result`] with a [`Refusal`], and need no `unsafe` in the caller's code.
@@ -39,6 +43,11 @@
 //! let (book, gained) = book.return_moves(0b100)?;
 //! assert_eq!((book.mask(), gained), (0b111, vec![]));
 //! assert_eq!(book.consult(1, 0)?, Advice::Move { action: 2, wait: 1, seek: 0 });
+//!
+//! // A plant that must settle: state 0 has its way to goal 1 over state 1, which is not settled, to state 2.
+//! let book = Book::make(&planbook::plants::band().bytes(), 0b11)?;
+//! assert_eq!(book.stages().collect::<Vec<_>>(), [Some(2), Some(2), Some(1)]);
+//! assert_eq!(book.consult(0, 0)?, Advice::Move { action: 1, wait: 1, seek: 1 });
 //! # Ok::<(), planbook::Refusal>(())
 //! ```
 //!

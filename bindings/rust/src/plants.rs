@@ -7,7 +7,9 @@ pub struct Model {
     pub moves: u16,
     /// N, the number of goals.
     pub goals: u16,
-    /// A label for each state: bit 0 allowed, bit 1 + i in goal i.
+    /// Whether runs must settle: the last number of the header.
+    pub settles: bool,
+    /// A label for each state: bit 0 allowed, bit 1 + i in goal i, and bit 9 settled if runs must settle.
     pub labels: Vec<u16>,
     /// From, move, to.
     pub arrows: Vec<[u16; 3]>,
@@ -15,6 +17,9 @@ pub struct Model {
 
 /// The most arrows that a plant may have.
 const MOST_ARROWS: usize = 8192;
+
+/// Bit 9 of a label: the state is settled.
+pub const SETTLED: u16 = 1 << 9;
 
 impl Model {
     /// The plant's bytes. Arrows are put in order, and doubles left out.
@@ -25,8 +30,29 @@ impl Model {
         let states = self.labels.len() as u16;
         let arrows_at = 16 + 2 * states;
         let length = arrows_at + 6 * arrows.len() as u16;
-        let header = [states, self.moves, self.goals, arrows.len() as u16, 16, arrows_at, length, 0];
+        let last = u16::from(self.settles);
+        let header = [states, self.moves, self.goals, arrows.len() as u16, 16, arrows_at, length, last];
         bytes_of(header.iter().chain(&self.labels).chain(arrows.iter().flatten()))
+    }
+
+    /// How long the plant's books are.
+    pub fn book_length(&self) -> usize {
+        let stages = if self.settles { 2 * self.labels.len() } else { 0 };
+        16 + stages + 4 * self.labels.len() * usize::from(self.goals)
+    }
+
+    /// How long the list of all its states is.
+    pub fn list_length(&self) -> usize {
+        2 * self.labels.len()
+    }
+
+    /// The plant with runs that must settle, in the states that the test picks.
+    pub fn settled(mut self, mut test: impl FnMut(usize) -> bool) -> Model {
+        self.settles = true;
+        for (state, label) in self.labels.iter_mut().enumerate() {
+            *label = *label & !SETTLED | if test(state) { SETTLED } else { 0 };
+        }
+        self
     }
 
     /// The mask with all moves in service.
@@ -94,8 +120,21 @@ pub fn strip() -> Model {
     Model {
         moves: 3,
         goals: 2,
+        settles: false,
         labels: vec![3, 1, 5, 0],
         arrows: vec![[0, 0, 1], [0, 1, 1], [0, 1, 2], [1, 0, 2], [1, 1, 3], [1, 2, 0], [2, 0, 0], [2, 2, 1]],
+    }
+}
+
+/// A small plant that must settle, with two stages: state 0 is settled and in goal 0, state 1 is not settled, and state
+/// 2 is settled and in both goals and can be stayed in. State 0 may stay too, and has its way to goal 1 over state 1.
+pub fn band() -> Model {
+    Model {
+        moves: 2,
+        goals: 2,
+        settles: true,
+        labels: vec![515, 1, 519],
+        arrows: vec![[0, 0, 0], [0, 1, 1], [1, 0, 2], [1, 1, 0], [2, 0, 2]],
     }
 }
 
@@ -204,9 +243,80 @@ impl Family {
     }
 }
 
+/// Which states of a plant are settled.
+#[derive(Clone, Copy, Debug, PartialEq, Eq)]
+pub enum Settled {
+    /// All of them.
+    All,
+    /// Those with an odd number.
+    EveryOther,
+    /// Most of them, at random.
+    Most,
+}
+
+/// All ways to settle a plant.
+pub const WAYS_TO_SETTLE: [Settled; 3] = [Settled::All, Settled::EveryOther, Settled::Most];
+
+impl Settled {
+    /// Its name, for tables and messages.
+    pub fn name(self) -> &'static str {
+        match self {
+            Settled::All => "all settled",
+            Settled::EveryOther => "every other settled",
+            Settled::Most => "most settled",
+        }
+    }
+
+    /// The plant with runs that must settle in such states.
+    pub fn of(self, model: Model, random: &mut Random) -> Model {
+        match self {
+            Settled::All => model.settled(|_| true),
+            Settled::EveryOther => model.settled(|state| state % 2 == 1),
+            Settled::Most => model.settled(|_| !random.once_in(8)),
+        }
+    }
+}
+
+/// The plant as it is, or as one that must settle, in as many of its states as may be.
+pub fn either_sort(model: Model, random: &mut Random) -> Model {
+    match random.below(8) {
+        0..=3 => model,
+        4 => WAYS_TO_SETTLE[random.below(3)].of(model, random),
+        _ => {
+            let unsettled = random.from_to(2, 6);
+            model.settled(|_| !random.once_in(unsettled))
+        }
+    }
+}
+
+/// A plant that takes the more time to settle the more stages it has: a chain of so many states that are not settled
+/// leads to one that is, in all goals, and stays. Beside it stands a tail of settled states in all goals, each of which
+/// leads to the next only and the last to a state that is not settled and stays; it is struck out at each stage, from
+/// its end on and one state in each round. A path of settled states in no goal leads to its first state, so that each
+/// round has as many levels. Each step can be made by any of eight moves.
+pub fn slow_stages(stages: u16, tail: u16, path: u16, goals: u16) -> Model {
+    let (home, last) = (stages, stages + tail + path + 1);
+    let (tail_at, path_at) = (home + 1, home + 1 + tail);
+    let mut model = empty(last + 1, 8, goals);
+    for state in 0..=last {
+        let next = match state {
+            _ if state == home || state == last => state,
+            _ if state + 1 == path_at => last,
+            _ if state + 1 == last => tail_at,
+            _ => state + 1,
+        };
+        let steps = (0..8).map(|action| [state, action, next]);
+        model.arrows.extend(steps.take((MOST_ARROWS - model.arrows.len()).min(8)));
+        if (home..path_at).contains(&state) || state == last {
+            (0..goals).for_each(|goal| set_goal(&mut model, state, goal));
+        }
+    }
+    model.settled(|state| (home..last).contains(&(state as u16)))
+}
+
 /// A plant with all states allowed and no arrows.
 fn empty(states: u16, moves: u16, goals: u16) -> Model {
-    Model { moves, goals, labels: vec![1; states.into()], arrows: Vec::new() }
+    Model { moves, goals, settles: false, labels: vec![1; states.into()], arrows: Vec::new() }
 }
 
 /// Puts the state in the goal.
@@ -418,6 +528,19 @@ pub fn tiny(random: &mut Random) -> Model {
             for _ in 0..[0, 1, 1, 1, 2, 3][random.below(6)] {
                 model.arrows.push([state, action, random.pick(states)]);
             }
+        }
+    }
+    model
+}
+
+/// A plant of a few states and moves that must settle, mostly with some settled states that are in every goal.
+pub fn tiny_settled(random: &mut Random) -> Model {
+    let every_goal = |model: &Model| (1 << (model.goals + 1)) - 1;
+    let unsettled = random.from_to(2, 4);
+    let mut model = tiny(random).settled(|_| !random.once_in(unsettled));
+    for state in 0..model.labels.len() {
+        if model.labels[state] & SETTLED != 0 && random.once_in(2) {
+            model.labels[state] |= every_goal(&model);
         }
     }
     model

@@ -13,7 +13,7 @@ pub enum Refusal {
     PlantLabel,
     /// 3: an arrow of the plant is out of range or out of order.
     PlantArrow,
-    /// 4: the book's header or length is not valid, or is not one for the plant.
+    /// 4: the book's header or length is not valid, or is not one for the plant, stages included.
     BookHeader,
     /// 5: a row of the book is neither lost nor valid, or the count of kept states is not that of the rows.
     BookRow,
@@ -34,11 +34,13 @@ const KNOWN: [(Refusal, &str); 9] = [
     (
         Refusal::PlantHeader,
         "the plant's header is not valid or its length is not the one its header says (plant, bytes 0 to 15): lend \
-         exactly 16 + 2S + 6E bytes, with S 1 to 1024, U 1 to 32, N 1 to 8, E 0 to 8192 and the last number 0",
+         exactly 16 + 2S + 6E bytes, with S 1 to 1024, U 1 to 32, N 1 to 8, E 0 to 8192 and the last number 0, or 1 if \
+         the plant must settle",
     ),
     (
         Refusal::PlantLabel,
-        "a label has a bit above bit N (plant, labels from byte 16 on): set only bit 0 and the bits 1 to N",
+        "a label has a bit above bit N (plant, labels from byte 16 on): set only bit 0 and the bits 1 to N, and bit 9 in \
+         a plant that must settle",
     ),
     (
         Refusal::PlantArrow,
@@ -48,13 +50,14 @@ const KNOWN: [(Refusal, &str); 9] = [
     (
         Refusal::BookHeader,
         "the book's header is not valid, its length is not the one its header says, or it is a book for other counts \
-         of states, moves and goals than the plant's (book, bytes 0 to 15): lend a whole book that was written for \
-         this plant",
+         of states, moves and goals than the plant's, or with stages for a plant that need not settle or without for \
+         one that must (book, bytes 0 to 15): lend a whole book that was written for this plant",
     ),
     (
         Refusal::BookRow,
-        "a row is neither wholly lost nor has every wait at most 1023 and every move in the book's mask, or the count \
-         of kept states is not that of the rows (book, rows from byte 16 on): lend a book as it was written",
+        "a row is neither wholly lost nor has every wait at most 1023, every move in the book's mask and, if it opens \
+         with a stage, one from 1 to S, or the count of kept states is not that of the rows (book, rows from byte 16 \
+         on): lend a book as it was written",
     ),
     (
         Refusal::Mask,
@@ -63,8 +66,8 @@ const KNOWN: [(Refusal, &str); 9] = [
     ),
     (
         Refusal::Buffer,
-        "a buffer is too short (book buffer or drop buffer): lend at least 16 + 4SN bytes for the book and 2S for the \
-         states dropped or gained",
+        "a buffer is too short (book buffer or drop buffer): lend at least 16 + 4SN bytes for the book, 2S more if it \
+         has stages, and 2S for the states dropped or gained",
     ),
     (
         Refusal::OutOfBook,

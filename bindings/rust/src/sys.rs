@@ -4,8 +4,8 @@
 //!
 //! A refused answer has its number and 0 in every other field, and so has a lost one beside its `lost`.
 
-/// The longest book: 16 + 4SN bytes for S 1,024 and N 8 (`PLANBOOK_BOOK_MAX` in C).
-pub const LONGEST_BOOK: usize = 16 + 4 * 1024 * 8;
+/// The longest book, one with stages: 16 + 2S + 4SN bytes for S 1,024 and N 8 (`PLANBOOK_BOOK_MAX` in C).
+pub const LONGEST_BOOK: usize = 16 + 2 * 1024 + 4 * 1024 * 8;
 
 /// The most bytes of a list of states, dropped or gained: 2S for S 1,024 (`PLANBOOK_DROPS_MAX` in C).
 pub const LONGEST_LIST: usize = 2 * 1024;
@@ -47,7 +47,8 @@ pub struct Advice {
     pub lost: u32,
     /// The move to make for the goal arrived at (`move` in C).
     pub action: u32,
-    /// At most so many moves until the goal arrived at is met; 0 exactly if the state serves all goals.
+    /// At most so many moves until the goal arrived at is met; 0 exactly if the state serves all goals. In a book with
+    /// stages, until that goal is met or an earlier stage is entered or can be by the next move.
     pub wait: u32,
     /// The goal arrived at: the one to seek, now and after the move.
     pub seek: u32,
@@ -61,7 +62,7 @@ pub struct Part {
     pub number: u32,
     /// Where the row begins in the book.
     pub start: u32,
-    /// How many bytes it has; 0 exactly when refused.
+    /// How many bytes it has: 4 for each goal, and 2 more for the stage in a book with stages; 0 exactly when refused.
     pub length: u32,
 }
 

@@ -9,7 +9,7 @@ mod promises;
 
 use planbook::calls::Linked;
 use planbook::compare::{rounds, Comparison};
-use planbook::plants::FAMILIES;
+use planbook::plants::{Random, FAMILIES, WAYS_TO_SETTLE};
 use planbook::second::Fast;
 
 /// Where the seeds of the random rounds begin.
@@ -33,6 +33,11 @@ fn documents_01_and_02() {
     document::good_moves_of_the_longest(&Linked);
     document::arrivals(&Linked);
     document::refusals(&Linked);
+    document::settle::rows(&Linked);
+    document::settle::chains(&Linked);
+    document::settle::withdrawals(&Linked);
+    document::settle::lookups(&Linked);
+    document::settle::refusals(&Linked);
 }
 
 /// A test for each promise.
@@ -51,6 +56,8 @@ keeps! {
     returns_undo_withdrawals
     returns_come_to_a_making
     lists_of_calls_come_to_a_making
+    stages_come_to_plain_books
+    stages_never_fall
     sets_are_those_of_the_rule
     following_meets_the_goals
 }
@@ -66,11 +73,13 @@ fn exhaustive_rounds() {
 
 #[test]
 fn random_rounds() {
-    let calls = std::env::var("PLANBOOK_CALLS").map_or(300_000, |word| word.parse().expect("a number of calls"));
+    let calls = std::env::var("PLANBOOK_CALLS").map_or(200_000, |word| word.parse().expect("a number of calls"));
     // In all rounds together, how many consults pass goals, and how many find all of several goals served; in how many
     // lists of withdrawals one after the first drops states, and in how many two or more do; and how many returns list
     // states, and how many have lost a state that the book handed in keeps.
-    let (mut arrivals, mut lists, mut returns) = ([0; 2], [0; 2], [0; 2]);
+    // At last, how many books have stages and keep states, how many of these two stages or more, and how many sets of
+    // good moves leave a stage.
+    let (mut arrivals, mut lists, mut returns, mut stages) = ([0; 2], [0; 2], [0; 2], [0; 3]);
     for (name, round) in rounds::RANDOM_ROUNDS {
         let mut comparison = Comparison::new(&Linked, &Fast);
         let rounds = rounds::run(&mut comparison, round, SEED, calls);
@@ -78,10 +87,12 @@ fn random_rounds() {
         arrivals = std::array::from_fn(|at| arrivals[at] + comparison.arrivals()[at]);
         lists = std::array::from_fn(|at| lists[at] + comparison.lists()[at]);
         returns = std::array::from_fn(|at| returns[at] + comparison.returns()[at]);
+        stages = std::array::from_fn(|at| stages[at] + comparison.stages()[at]);
     }
     assert!(arrivals.iter().all(|&many| many > calls / 20), "{arrivals:?} arrivals");
     assert!(lists.iter().all(|&many| many > calls / 100), "{lists:?} lists of withdrawals");
     assert!(returns.iter().all(|&many| many > calls / 50), "{returns:?} returns");
+    assert!(stages.iter().all(|&many| many > calls / 20), "{stages:?} with stages");
 }
 
 /// All families at their largest: made, each move withdrawn in turn, by single calls and by lists, and some returned.
@@ -91,6 +102,10 @@ fn families() {
     for family in FAMILIES {
         for states in [1, 2, 31, 64, 300, 1024] {
             rounds::each_move_in_turn(&mut comparison, &family.build(states, SEED));
+            for way in WAYS_TO_SETTLE {
+                let model = way.of(family.build(states, SEED), &mut Random::new(SEED));
+                rounds::each_move_in_turn(&mut comparison, &model);
+            }
         }
     }
     println!("{}", comparison.summary());

@@ -7,8 +7,8 @@ mod promises;
 
 use planbook::calls::{mask_bytes, Calls};
 use planbook::compare::{rounds, Comparison};
-use planbook::plants::{self, Random, FAMILIES};
-use planbook::second::format::Plant;
+use planbook::plants::{self, Model, Random, FAMILIES, WAYS_TO_SETTLE};
+use planbook::second::format::{BookView, Plant};
 use planbook::second::{effort, Brute, Fast, Plain};
 
 #[test]
@@ -22,6 +22,9 @@ fn marked_examples() {
         document::returns_to_invented_books(planner);
         document::good_moves(planner);
         document::arrivals(planner);
+        document::settle::rows(planner);
+        document::settle::withdrawals(planner);
+        document::settle::lookups(planner);
     }
 }
 
@@ -61,6 +64,8 @@ fn refusals_and_limits() {
         document::gained_lists(planner);
         document::previews_of_the_longest(planner);
         document::good_moves_of_the_longest(planner);
+        document::settle::chains(planner);
+        document::settle::refusals(planner);
     }
 }
 
@@ -72,80 +77,127 @@ fn promises() {
     promises::returns_undo_withdrawals(&Fast);
     promises::returns_come_to_a_making(&Fast);
     promises::lists_of_calls_come_to_a_making(&Fast);
+    promises::stages_come_to_plain_books(&Fast);
+    promises::stages_never_fall(&Fast);
     promises::sets_are_those_of_the_rule(&Fast);
     promises::following_meets_the_goals(&Fast);
 }
 
-/// Tiny plants, with every mask, every withdrawal from what is made, the preview of move 0, and, from what is made with
-/// all moves, the lists of moves 0 and 1 in both orders: brute force, sweeps and worklist agree.
-#[test]
-fn brute_force_agrees_on_tiny_plants() {
-    let mut brute = Comparison::new(&Brute, &Fast);
-    let mut plain = Comparison::new(&Plain, &Fast);
-    let (mut tried, mut kept, mut lost, mut long) = (0, 0, 0, 0);
-    for seed in 0..30_000 {
-        let model = plants::tiny(&mut Random::new(seed));
-        let plant = model.bytes();
-        let every_move = model.every_move();
-        if effort(&Plant::read(&plant).expect("a tiny plant"), every_move) > 3_000.0 {
-            continue;
-        }
-        tried += 1;
-        let book_length = 16 + 4 * model.labels.len() * usize::from(model.goals);
-        let lengths = [book_length, 2 * model.labels.len()];
+/// Brute force and sweeps, each beside the worklist.
+struct Trial<'a> {
+    brute: Comparison<'a>,
+    plain: Comparison<'a>,
+    tried: u64,
+    kept: usize,
+    lost: usize,
+    /// Waits above 1.
+    long: usize,
+}
+
+impl Trial<'_> {
+    fn new() -> Trial<'static> {
+        let [brute, plain] = [&Brute as &dyn Calls, &Plain].map(|planner| Comparison::new(planner, &Fast));
+        Trial { brute, plain, tried: 0, kept: 0, lost: 0, long: 0 }
+    }
+
+    /// A tiny plant, with every mask, every withdrawal from what is made, the preview of move 0, and, from what is made
+    /// with all moves, the lists of moves 0 and 1 in both orders.
+    fn try_plant(&mut self, model: &Model) {
+        let (plant, every_move) = (model.bytes(), model.every_move());
+        let lengths = [model.book_length(), model.list_length()];
+        self.tried += 1;
         for made in 0..=every_move {
-            let (_, book) = brute.make(&plant, made, book_length);
-            plain.make(&plant, made, book_length);
-            let book_kept = usize::from(book[6]);
-            kept += book_kept;
-            lost += model.labels.len() - book_kept;
-            long += book[16..].chunks_exact(4).filter(|entry| (2..5).contains(&entry[0])).count();
-            if book_kept != 0 {
-                for withdrawn in 1..=every_move {
-                    brute.withdraw(&plant, &book, withdrawn, lengths);
-                    plain.withdraw(&plant, &book, withdrawn, lengths);
-                }
-                brute.preview(&plant, &book, 1, lengths[1]);
-                plain.preview(&plant, &book, 1, lengths[1]);
+            let (_, book) = self.brute.make(&plant, made, lengths[0]);
+            self.plain.make(&plant, made, lengths[0]);
+            if self.count(&book) == 0 {
+                continue;
             }
-            if book_kept != 0 && made == every_move && model.moves > 1 {
+            for withdrawn in 1..=every_move {
+                self.both(|comparison| comparison.withdraw(&plant, &book, withdrawn, lengths));
+            }
+            self.both(|comparison| comparison.preview(&plant, &book, 1, lengths[1]));
+            if made == every_move && model.moves > 1 {
                 for masks in [[1, 2], [2, 1]].map(|masks| mask_bytes(&masks)) {
-                    brute.withdraw_list(&plant, &book, &masks, lengths);
-                    plain.withdraw_list(&plant, &book, &masks, lengths);
+                    self.both(|comparison| comparison.withdraw_list(&plant, &book, &masks, lengths));
                 }
             }
         }
     }
-    println!("{tried} tiny plants: {}; {}", brute.summary(), plain.summary());
-    println!("made {kept} kept and {lost} lost states, {long} waits above 1");
-    assert!(tried > 20_000 && kept > 30_000 && lost > 30_000 && long > 3_000);
-    let [late, repeated] = brute.lists();
+
+    /// Tiny plants that keep states when all moves are in service, made with every mask: all moves that are out come
+    /// back.
+    fn try_returns(&mut self, model: &Model) {
+        let (plant, every_move) = (model.bytes(), model.every_move());
+        let lengths = [model.book_length(), model.list_length()];
+        if self.plain.make(&plant, every_move, lengths[0]).1[6] != 0 {
+            for made in 0..every_move {
+                let (_, book) = self.plain.make(&plant, made, lengths[0]);
+                self.both(|comparison| comparison.return_moves(&plant, &book, every_move & !made, lengths));
+            }
+        }
+    }
+
+    fn both<T>(&mut self, mut call: impl FnMut(&mut Comparison) -> T) {
+        call(&mut self.brute);
+        call(&mut self.plain);
+    }
+
+    /// Counts what a book has; answers how many states it keeps.
+    fn count(&mut self, book: &[u8]) -> usize {
+        let rows = BookView::read(book, None).expect("a book that was made");
+        let kept: Vec<usize> = (0..rows.states).filter(|&state| rows.is_kept(state)).collect();
+        let waits = kept.iter().flat_map(|&state| (0..rows.goals).map(move |goal| rows.entry(state, goal).0));
+        self.long += waits.filter(|&wait| wait > 1).count();
+        self.kept += kept.len();
+        self.lost += rows.states - kept.len();
+        kept.len()
+    }
+
+    fn print(&self) {
+        println!("{} tiny plants: {}; {}", self.tried, self.brute.summary(), self.plain.summary());
+        println!("made {} kept and {} lost states, {} waits above 1", self.kept, self.lost, self.long);
+    }
+}
+
+/// Whether brute force tries at most so many strategies and replies for a plant.
+fn is_little(model: &Model, most: f64) -> bool {
+    effort(&Plant::read(&model.bytes()).expect("a tiny plant"), model.every_move()) <= most
+}
+
+/// Brute force, sweeps and worklist agree on tiny plants.
+#[test]
+fn brute_force_agrees_on_tiny_plants() {
+    let mut trial = Trial::new();
+    let models = (0..30_000).map(|seed| plants::tiny(&mut Random::new(seed)));
+    models.filter(|model| is_little(model, 3_000.0)).for_each(|model| trial.try_plant(&model));
+    trial.print();
+    assert!(trial.tried > 20_000 && trial.kept > 30_000 && trial.lost > 30_000 && trial.long > 3_000);
+    let [late, repeated] = trial.brute.lists();
     assert!(late > 3_000 && repeated > 600);
 }
 
-/// Tiny plants that keep states when all moves are in service, made with every mask: all moves that are out come back,
-/// by brute force and by sweeps.
+/// They agree on tiny plants that must settle.
+#[test]
+fn brute_force_agrees_on_tiny_plants_that_settle() {
+    let mut trial = Trial::new();
+    let models = (0..20_000).map(|seed| plants::tiny_settled(&mut Random::new(seed)));
+    models.filter(|model| is_little(model, 1_000.0)).for_each(|model| trial.try_plant(&model));
+    trial.print();
+    assert!(trial.tried > 10_000 && trial.kept > 30_000 && trial.lost > 30_000 && trial.long > 500);
+    let [staged, deep, _] = trial.brute.stages();
+    assert!(staged > 30_000 && deep > 5_000);
+}
+
+/// They agree when all moves that are out come back, in plants of both sorts.
 #[test]
 fn brute_force_agrees_on_returns() {
-    let mut brute = Comparison::new(&Brute, &Fast);
-    let mut plain = Comparison::new(&Plain, &Fast);
+    let mut trial = Trial::new();
     for seed in 0..30_000 {
-        let model = plants::tiny(&mut Random::new(seed));
-        let plant = model.bytes();
-        let every_move = model.every_move();
-        let book_length = 16 + 4 * model.labels.len() * usize::from(model.goals);
-        let lengths = [book_length, 2 * model.labels.len()];
-        let little = effort(&Plant::read(&plant).expect("a tiny plant"), every_move) <= 100.0;
-        if little && plain.make(&plant, every_move, book_length).1[6] != 0 {
-            for made in 0..every_move {
-                let (_, book) = plain.make(&plant, made, book_length);
-                brute.return_moves(&plant, &book, every_move & !made, lengths);
-                plain.return_moves(&plant, &book, every_move & !made, lengths);
-            }
-        }
+        let models = [plants::tiny, plants::tiny_settled].map(|model| model(&mut Random::new(seed)));
+        models.iter().filter(|model| is_little(model, 100.0)).for_each(|model| trial.try_returns(model));
     }
-    println!("tiny plants: {}; {}", brute.summary(), plain.summary());
-    assert!(brute.returns()[0] > 10_000);
+    println!("tiny plants: {}; {}", trial.brute.summary(), trial.plain.summary());
+    assert!(trial.brute.returns()[0] > 10_000);
 }
 
 /// Withdrawals from books that nobody made, some by lists, and returns to them, by brute force.
@@ -155,9 +207,8 @@ fn brute_force_agrees_on_invented_books() {
     let mut tried = 0;
     for seed in 0..20_000 {
         let random = &mut Random::new(seed);
-        let model = plants::tiny(random);
-        let plant = model.bytes();
-        if effort(&Plant::read(&plant).expect("a tiny plant"), model.every_move()) <= 1_500.0 {
+        let model = if seed % 2 == 0 { plants::tiny(random) } else { plants::tiny_settled(random) };
+        if is_little(&model, 1_000.0) {
             rounds::withdrawals_from_invented(&mut comparison, &model, random);
             tried += 1;
         }
@@ -176,6 +227,12 @@ fn sweeps_and_worklist_agree_on_families() {
     for family in FAMILIES {
         for states in [1, 2, 3, 4, 7, 16, 33, 64, 150, 400, 1024] {
             rounds::each_move_in_turn(&mut comparison, &family.build(states, 1));
+        }
+        for (states, way) in
+            [1, 2, 3, 4, 7, 16, 33, 64].iter().flat_map(|&states| WAYS_TO_SETTLE.map(|way| (states, way)))
+        {
+            let model = way.of(family.build(states, 1), &mut Random::new(1));
+            rounds::each_move_in_turn(&mut comparison, &model);
         }
     }
     println!("{}", comparison.summary());

@@ -40,13 +40,65 @@ fn a_book_gives_every_good_move() {
 /// State 0 is in both goals and goes to state 1, which is in goal 0 alone and goes back.
 #[test]
 fn goals_that_a_state_serves_are_passed() {
-    let model = plants::Model { moves: 2, goals: 2, labels: vec![7, 3], arrows: vec![[0, 1, 1], [1, 0, 0]] };
+    let model =
+        plants::Model { moves: 2, goals: 2, settles: false, labels: vec![7, 3], arrows: vec![[0, 1, 1], [1, 0, 0]] };
     let book = Book::make(&model.bytes(), 3).expect("a plant");
     let advice = |action, wait, seek| Ok(Advice::Move { action, wait, seek });
     assert_eq!((book.consult(0, 0), book.consult(0, 1)), (advice(1, 0, 0), advice(1, 0, 1))); // all served: it stays
     assert_eq!((book.consult(1, 0), book.consult(1, 1)), (advice(0, 1, 1), advice(0, 1, 1)));
     assert_eq!((book.good_moves(0, 0), book.good_moves(0, 1)), (Ok(2), Ok(2)));
     assert_eq!((book.good_moves(1, 0), book.good_moves(1, 1)), (Ok(1), Ok(1)));
+}
+
+/// State 0 is settled and in goal 0, state 1 is not settled, and state 2 is settled, in both goals, and stays.
+#[test]
+fn a_book_of_a_plant_that_must_settle_has_stages() {
+    let plant = plants::band().bytes();
+    let book = Book::make(&plant, 3).expect("a plant");
+    assert_eq!((book.has_stages(), book.kept_count(), book.bytes().len()), (true, 3, 46));
+    assert_eq!(book.stages().collect::<Vec<_>>(), [Some(2), Some(2), Some(1)]);
+    assert_eq!((book.stage(1), book.stage(3)), (Ok(Some(2)), Err(Refusal::OutOfBook)));
+    assert_eq!(book.row(1), Ok(&book.bytes()[26..36]));
+    let rows: Vec<Option<Vec<Entry>>> = book.rows().map(|row| row.map(Iterator::collect)).collect();
+    let entry = |wait, action| Entry { wait, action };
+    let expected = [[entry(0, 0), entry(1, 1)], [entry(0, 0); 2], [entry(0, 0); 2]];
+    assert_eq!(rows, expected.map(|row| Some(row.to_vec())));
+    assert_eq!(book.consult(1, 1), Ok(Advice::Move { action: 0, wait: 0, seek: 1 })); // it leaves its stage
+    assert_eq!((book.good_moves(1, 0), book.good_moves(0, 0)), (Ok(1), Ok(2)));
+
+    // Without move 1 state 0 has no way to goal 1.
+    let (rest, dropped) = book.withdraw(2).expect("move 1 exists");
+    assert_eq!((rest.stages().collect::<Vec<_>>(), dropped), (vec![None, Some(2), Some(1)], vec![0]));
+    assert_eq!(book.preview(2), Ok(Preview { dropped: vec![0], kept: 2 }));
+    assert_eq!(rest.return_moves(2), Ok((book.clone(), vec![0])));
+    assert_eq!(book.withdraw_list(&[2, 1]).map(|(rest, dropped)| (rest.kept_count(), dropped)), Ok((0, vec![0, 1, 2])));
+    assert_eq!(Book::from_bytes(&plant, book.bytes()), Ok(book));
+}
+
+/// The same plant with the last header number 0 and no label with bit 9, and its book, which has no stages.
+#[test]
+fn the_sort_of_a_book_is_that_of_its_plant() {
+    let model = plants::band();
+    let settled = Book::make(&model.bytes(), 3).expect("a plant");
+    let labels = model.labels.iter().map(|label| label & !plants::SETTLED).collect();
+    let model = plants::Model { settles: false, labels, ..model };
+    let plain = Book::make(&model.bytes(), 3).expect("a plant");
+    assert_eq!((plain.has_stages(), plain.stage(0), plain.bytes().len()), (false, Ok(None), 40));
+    assert_eq!(plain.stages().collect::<Vec<_>>(), [None; 3]);
+    for (plant, book) in [(settled.plant(), &plain), (plain.plant(), &settled)] {
+        assert_eq!(Book::from_bytes(plant, book.bytes()), Err(Refusal::BookHeader));
+        assert_eq!(good_moves(plant, book.bytes(), 0, 0), Err(Refusal::BookHeader));
+        assert_eq!(consult(book.bytes(), 0, 0), book.consult(0, 0)); // which takes both
+    }
+    let mut out = [0; 46];
+    assert_eq!(make_into(settled.plant(), 3, &mut out[..45]), Err(Refusal::Buffer));
+    assert_eq!((make_into(settled.plant(), 3, &mut out), make_into(plain.plant(), 3, &mut out)), (Ok(46), Ok(40)));
+    for stage in [0, 4, 255] {
+        assert_eq!(consult(&changed(settled.bytes(), 16, stage), 0, 0), Err(Refusal::BookRow));
+    }
+    assert_eq!(consult(&changed(settled.bytes(), 16, 3), 0, 0), settled.consult(0, 0));
+    let longest = Book::make(&plants::longest().settled(|_| true).bytes(), 1).expect("a plant");
+    assert_eq!(longest.bytes().len(), planbook::sys::LONGEST_BOOK);
 }
 
 #[test]

@@ -39,7 +39,7 @@ within-same p mask test start e = ap (bookBytes p mask) (kept-same p mask test s
 -- a book for an accepted plant, from a list of the states at which a test holds and with room for it, is written
 within-written : (s : List ℕ) (mask : ℕ) (test : ℕ → Bool) (start o : List ℕ)
     → start ≡ filter test (numbers (plantOf s .states) 0) → plantFault s ≡ 0 → bookRoom (plantOf s) (length o) ≡ true
-    → (writtenLong s start o ≡ bookLong (plantOf s .states) (plantOf s .goals))
+    → (writtenLong s start o ≡ bookLong (plantOf s .settles) (plantOf s .states) (plantOf s .goals))
     × (writtenBook s mask start o ≡ over (bookWithin (plantOf s) mask test) o)
 within-written s mask test start o e fine room =
     let p = plantOf s in

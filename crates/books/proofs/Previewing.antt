@@ -27,15 +27,21 @@ kept-is : (t : Bool) (b o o′ : List ℕ) → 16 ≤ length b → bookCount o �
 kept-is true b o o′ h z e = ap bookCount e ∙ count-over b o h
 kept-is false b o o′ h z e = ap bookCount e ∙ z
 
+-- a book has its header
+long-least : (t : Bool) (s n : ℕ) → 16 ≤ bookLong t s n
+unfolding bookLong
+long-least true s n = omega arith
+long-least false s n = omega arith
+
 -- a withdrawal into a book buffer of zeros that is long enough for every book: what it answers, and K as it stands in
 -- the buffer afterwards
 pub preview-done : {s b : List ℕ} {gone : ℕ} {o o′ d d′ : List ℕ} {r : Answer} (kept : ℕ)
-    → WithdrawSays s b gone o o′ d d′ r → length o ≡ 32784 → bookCount o ≡ 0 → kept ≡ bookCount o′
+    → WithdrawSays s b gone o o′ d d′ r → length o ≡ 34832 → bookCount o ≡ 0 → kept ≡ bookCount o′
     → PreviewSays s b gone d d′ (record { number = r .number; drops = r .drops; kept = kept })
-unfolding bookLong
 preview-done {s} {b} {gone} {o} {o′} {d} {d′} {r} kept says long zeros e =
     let new = withdrawnBook (plantOf s) b gone in
-    let header : 16 ≤ length new = omega (arith, withdrawn-length (plantOf s) b gone) in
+    let header : 16 ≤ length new =
+    omega (arith, withdrawn-length (plantOf s) b gone, long-least (plantOf s .settles) (plantOf s .states) (plantOf s .goals)) in
     record {
       number = says .writes .number ∙ sym (preview-as-longest s b gone (length o) (length d) long);
       drops = says .writes .drops;

@@ -1,18 +1,18 @@
 -- The states that a making or a withdrawal begins with, as the loops list them, and the states kept within a list.
 -- Assumes nothing.
-use mathlib.Core.Path.{_≡_, refl, sym, ap, _∙_}
-use mathlib.Core.Bool.{Bool, true, false}
+use mathlib.Core.Path.{_≡_, refl, sym, ap, ap₂, _∙_}
+use mathlib.Core.Bool.{Bool, true, false, _||_}
 use mathlib.Core.List.{List, [], _∷_, _++_}
-use Prim.Native.Nat.{ℕ, suc, _+_, _-_, _≤_, _<_}
+use Prim.Native.Nat.{ℕ, zero, suc, _+_, _-_, _≤_, _<_}
 use native.Mathlib.Numerals.{add-one}
 use native.Mathlib.Omega.{arith}
 use lib.ListN.{length, getD, take, drop, set, length-append, length-set, take-append-drop}
 use lib.Seq.{take-suc, append-snoc, length-take-le, set-at}
-use Rattle.statements.specs.Sets.{numbers, iterate, consIf, filter, over}
-use Rattle.statements.specs.Plants.{Plant}
-use Rattle.statements.specs.Kept.{forcedAll, keptRound, keptWithin}
+use Rattle.statements.specs.Sets.{pick, numbers, iterate, consIf, filter, over}
+use Rattle.statements.specs.Plants.{Plant, settled, can}
+use Rattle.statements.specs.Kept.{nowhere, forcedAll, heldRound, heldWithin, nextStage, stagesTo, keptWithin}
 use Rattle.arrays.specs.Lists.{among}
-use Rattle.sets.proofs.Members.{sifted-filter, filter-length, filter-snoc, length-numbers, numbers-more}
+use Rattle.sets.proofs.Members.{sifted-filter, filter-filter, filter-length, filter-snoc, length-numbers, numbers-more}
 use Rattle.sets.proofs.Over.{over-one}
 
 -- a loop that lists the states: one more
@@ -119,10 +119,33 @@ fill-end f n old new at r =
     let all : n - 0 ≡ n = omega arith in
     r .list ∙ rw (r .place, all)
 
--- the states kept within a list of those at which a test holds
+-- the states kept within a list of those at which a test holds: what is held, stages and what is kept hang on the test's
+-- states alone
+module _ (p : Plant) (mask : ℕ) (v w : ℕ → Bool)
+    (same : filter v (numbers (p .states) 0) ≡ filter w (numbers (p .states) 0)) where
+  held-alike : (done : ℕ → Bool) → heldWithin p mask done v ≡ heldWithin p mask done w
+  unfolding heldWithin heldRound
+  held-alike done = ap (iterate (p .states) (forcedAll (p .goals) p mask done)) same
+
+  stage-alike : (earlier : List ℕ) → nextStage p mask v earlier ≡ nextStage p mask w earlier
+  unfolding nextStage heldWithin heldRound
+  stage-alike earlier =
+      let calm : ℕ → Bool = λ x. settled p x || can p mask earlier x in
+      ap (iterate (p .states) (forcedAll (p .goals) p mask (can p mask earlier)))
+      (sym (filter-filter calm v (numbers (p .states) 0)) ∙ ap (filter calm) same
+      ∙ filter-filter calm w (numbers (p .states) 0))
+
+  stages-alike : (k : ℕ) → stagesTo k p mask v ≡ stagesTo k p mask w
+  unfolding stagesTo iterate
+  stages-alike zero = refl
+  stages-alike (suc k) = ap (nextStage p mask v) (stages-alike k) ∙ stage-alike (iterate k (nextStage p mask w) [])
+
+  kept-alike : keptWithin p mask v ≡ keptWithin p mask w
+  unfolding keptWithin
+  kept-alike = ap₂ (λ (xs ys : List ℕ). pick (p .settles) xs ys) (stages-alike (p .states)) (held-alike nowhere)
+
 pub kept-same : (p : Plant) (mask : ℕ) (test : ℕ → Bool) (xs : List ℕ) → xs ≡ filter test (numbers (p .states) 0)
     → keptWithin p mask (among xs) ≡ keptWithin p mask test
-unfolding keptWithin keptRound among
+unfolding among
 kept-same p mask test xs e =
-    ap (iterate (p .states) (forcedAll (p .goals) p mask))
-    (rw e (sym (sifted-filter test (numbers (p .states) 0))))
+    kept-alike p mask (among xs) test (rw e (sym (sifted-filter test (numbers (p .states) 0))))

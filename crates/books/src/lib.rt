@@ -116,7 +116,7 @@ pub fn preview_withdrawal(plant: &[u8], book: &[u8], mask: u32, drops: &mut [u8]
         (now (drops .entry)) (now (drops .exit)) r ⌝ }
     ensures demands { λ _. ⌜ Demands ⌝ }
 {
-    let mut next = [0u8; 32784];
+    let mut next = [0u8; 34832];
     let answer = withdraw_moves(plant, book, mask, &mut next, drops);
     Cost {
         number: answer.number,

@@ -2,7 +2,8 @@
 // withdrawal with those that the old book keeps; then the ones that are not allowed are struck out.
 use format::plant::is_allowed;
 use format::word::number;
-use rows::is_lost;
+use rows::lost_in;
+use rows::staged;
 ghost use mathlib.Core.Path.{_≡_};
 ghost use Prim.Native.Nat.{_≤_};
 ghost use lib.ListN.{length, take};
@@ -37,9 +38,10 @@ pub(crate) fn kept(book: &[u8], list: &mut [u16]) -> usize
     let count = number(book, 3) as usize;
     let mut at = count;
     let mut x = number(book, 0);
+    let stages = staged(book);
     while 0 < x {
         x -= 1;
-        if !is_lost(book, x as u32) {
+        if !lost_in(book, stages, x as u32) {
             at -= 1;
             list[at] = x;
         }

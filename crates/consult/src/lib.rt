@@ -70,7 +70,7 @@ pub fn state_row<'a>(book: &'a [u8], state: u32) -> &'a [u8]
     if refusals::consult(book, state, 0) != 0 {
         return &book[..0];
     }
-    let start = rows::entry_place(book, state, 0);
-    let end = start + 4 * (format::word::number(book, 2) as usize);
+    let start = rows::row_place(book, state);
+    let end = start + rows::row_long(book);
     &book[start..end]
 }

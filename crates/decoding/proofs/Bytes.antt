@@ -1,13 +1,15 @@
 -- Where its numbers fit, a book is a list of bytes. Assumes nothing.
+use mathlib.Core.Path.{_≡_, sym, subst}
 use mathlib.Core.Logic.{inl, inr}
-use mathlib.Core.List.{List, _++_}
+use mathlib.Core.Bool.{Bool, true}
+use mathlib.Core.List.{List, [], _++_}
 use Prim.Native.Nat.{ℕ, zero, suc, _/_, _%_, _≤_, _<_}
 use native.Mathlib.Omega.{arith}
 use lib.ListN.{length, getD}
-use Rattle.statements.specs.Sets.{isIn, joined}
+use Rattle.statements.specs.Sets.{pick, isIn, joined}
 use Rattle.statements.specs.Plants.{Plant}
-use Rattle.statements.specs.Kept.{waitOf, listedMove}
-use Rattle.statements.specs.Books.{two, lostMark, bookLong, entryOf, rowOf, headOf, bookBytes}
+use Rattle.statements.specs.Kept.{stageOf, waitOf, listedMove}
+use Rattle.statements.specs.Books.{two, lostMark, bookLong, entryOf, stagePart, rowOf, headOf, bookBytes}
 use Rattle.sets.proofs.Tests.{decided}
 use Rattle.sets.proofs.Joined.{append-bytes, joined-bytes}
 use Rattle.decoding.proofs.Sizes.{long-most}
@@ -48,11 +50,30 @@ module _ (p : Plant) (mask : ℕ) (kept : List ℕ) (fits : Fits p mask kept) wh
       (then-bytes (mask % 65536) _ (omega arith)
       (then-bytes (mask / 65536) _ (omega (arith, mask-below p mask kept fits))
       (then-bytes 16 _ (omega arith)
-      (two-bytes (bookLong (p .states) (p .goals)) (omega (arith, long-most (fits .sizes))))))))))
+      (two-bytes (bookLong (p .settles) (p .states) (p .goals)) (omega (arith, long-most (fits .sizes) (p .settles))))))))))
+
+  stage-bytes : (x k : ℕ) → getD (stagePart p mask kept x) k 0 < 256
+  unfolding stagePart
+  stage-bytes x k =
+      elim (decided (p .settles)) [
+        | inl e ↦
+            let stage = pick (isIn x kept) (stageOf p mask kept x) lostMark in
+            let most : stage < 65536 =
+            elim (decided (isIn x kept)) [
+              | inl h ↦ rw h (omega (arith, fits .stages e x h, fits .sizes .states-most))
+              | inr h ↦ rw h (omega arith)
+            ] in
+            subst (λ (t : Bool). getD (pick t (two stage) []) k 0 < 256) (sym e) (two-bytes stage most k)
+        | inr e ↦
+            subst
+            (λ (t : Bool). getD (pick t (two (pick (isIn x kept) (stageOf p mask kept x) lostMark)) []) k 0 < 256)
+            (sym e) (omega arith)
+      ]
 
   pub book-bytes : (k : ℕ) → getD (bookBytes p mask kept) k 0 < 256
   unfolding bookBytes rowOf
   book-bytes =
       append-bytes (headOf p mask kept) (joined (p .states) 0 (rowOf p mask kept)) head-bytes
       (joined-bytes (rowOf p mask kept) (p .states) 0 λ x lx hx.
-      joined-bytes (entryOf p mask kept x) (p .goals) 0 λ i li hi. entry-bytes x i (omega arith))
+      append-bytes (stagePart p mask kept x) (joined (p .goals) 0 (entryOf p mask kept x)) (stage-bytes x)
+      (joined-bytes (entryOf p mask kept x) (p .goals) 0 λ i li hi. entry-bytes x i (omega arith)))

@@ -15,14 +15,15 @@ use Rattle.statements.specs.Sets.{every, bit, isIn}
 use Rattle.statements.specs.Plants.{word, Arrow, Plant, words, plantOf, headOk, labelsOk, arrowsOk, rank}
 use Rattle.statements.specs.Plants.{firstOf, when, plantFault, allowed, endsIn}
 use Rattle.statements.specs.Books.{bookLong, bookStates, bookMoves, bookGoals, bookMask, maskOk, bookHeadOk, rowsOk}
-use Rattle.statements.specs.Books.{bookCount, isLost, isHeld, bookKept, bookFault, eachOk, masksOf, unionOf}
+use Rattle.statements.specs.Books.{bookCount, bookTotal, staged, isLost, isHeld, bookKept, bookFault, eachOk}
+use Rattle.statements.specs.Books.{masksOf, unionOf}
 use Rattle.statements.specs.Calls.{maskFault, wholeMasks, masksFault, bookRoom, dropRoom, roomFault, makeFault, alike}
 use Rattle.statements.specs.Calls.{lentFault, withdrawFault, withdrawListFault, previewFault, makes, withdraws}
 use Rattle.statements.specs.Calls.{returnFault, withdrawsList, returns, toldOf}
-use Rattle.sets.proofs.Tests.{same-number, and-left, and-right, and-iff}
+use Rattle.sets.proofs.Tests.{decided, not-both, same-number, and-left, and-right, and-iff, or-cases}
 use Rattle.sets.proofs.Members.{isIn-none, isIn-consIf}
 use Rattle.decoding.proofs.Masks.{or-ok, union-ok}
-use Rattle.decoding.proofs.Sizes.{Sizes, entries-most, long-most}
+use Rattle.decoding.proofs.Sizes.{Sizes, entries-most, long-most, staged-of, staged-total}
 
 pub first-iff : (a b : ℕ) → (firstOf a b ≡ 0) ↔ ((a ≡ 0) × (b ≡ 0))
 first-iff zero b = (λ h. (refl, h), λ h. h .1)
@@ -47,7 +48,7 @@ when-iff false n = (λ h. absurd (omega arith), λ h. absurd (true≢false (sym 
 pub record PlantOk (p : Plant) : Type 0 where
   pub sizes : Sizes (p .states) (p .moves) (p .goals)
   pub labels-long : length (p .labels) ≡ p .states
-  pub labels-ok : labelsOk (p .goals) (p .labels) ≡ true
+  pub labels-ok : labelsOk (p .settles) (p .goals) (p .labels) ≡ true
   pub arrows-ok : arrowsOk (p .states) (p .moves) 0 (p .arrows) ≡ true
 
 -- as many numbers are read as are asked for
@@ -59,13 +60,13 @@ words-length (suc n) s = ap suc (words-length n (drop 2 s))
 -- an accepted plant's three tests
 pub plant-tests : (s : List ℕ) → plantFault s ≡ 0
     → let p = plantOf s in
-    (headOk s ≡ true) × (labelsOk (p .goals) (p .labels) ≡ true)
+    (headOk s ≡ true) × (labelsOk (p .settles) (p .goals) (p .labels) ≡ true)
     × (arrowsOk (p .states) (p .moves) 0 (p .arrows) ≡ true)
 unfolding plantFault
 plant-tests s h =
     let p = plantOf s in
     let rest = first-iff (when (not (headOk s)) 1) _ .0 h in
-    let last = first-iff (when (not (labelsOk (p .goals) (p .labels))) 2) _ .0 (rest .1) in
+    let last = first-iff (when (not (labelsOk (p .settles) (p .goals) (p .labels))) 2) _ .0 (rest .1) in
     (when-iff (headOk s) 0 .0 (rest .0), when-iff _ 1 .0 (last .0), when-iff _ 2 .0 (last .1))
 
 pub plant-ok : (s : List ℕ) → plantFault s ≡ 0 → PlantOk (plantOf s)
@@ -88,8 +89,8 @@ module _ (s : List ℕ) (fine : plantFault s ≡ 0) where
   pub entries-few : plantOf s .states * plantOf s .goals ≤ 1024 * 8
   entries-few = entries-most (plant-ok s fine .sizes)
 
-  pub long-few : bookLong (plantOf s .states) (plantOf s .goals) ≤ 32784
-  long-few = long-most (plant-ok s fine .sizes)
+  pub long-few : bookLong (plantOf s .settles) (plantOf s .states) (plantOf s .goals) ≤ 34832
+  long-few = long-most (plant-ok s fine .sizes) (plantOf s .settles)
 
 -- arrows in range start, move and end in range
 pub arrow-range : (arrows : List Arrow) (s u least x v y : ℕ) → arrowsOk s u least arrows ≡ true
@@ -128,12 +129,26 @@ allowed-below p ok x h =
 pub record BookOk (b : List ℕ) : Type 0 where
   pub sizes : Sizes (bookStates b) (bookMoves b) (bookGoals b)
   pub rows-at : word 6 b ≡ 16
-  pub total : word 7 b ≡ length b
-  pub size : length b ≡ bookLong (bookStates b) (bookGoals b)
+  pub total : bookTotal b ≡ length b
+  pub size : length b ≡ bookLong (staged b) (bookStates b) (bookGoals b)
   pub mask-ok : maskOk (bookMoves b) (bookMask b) ≡ true
   pub head : bookHeadOk b ≡ true
   pub rows : rowsOk b ≡ true
   pub count : bookCount b ≡ length (bookKept b)
+
+-- the length is that of its sort
+sort-size : (b : List ℕ) → bookTotal b ≡ length b →
+    (eqb (bookTotal b) (bookLong false (bookStates b) (bookGoals b)) || staged b) ≡ true →
+    length b ≡ bookLong (staged b) (bookStates b) (bookGoals b)
+sort-size b e h =
+    elim (decided (staged b)) [
+      | inl t ↦ sym e ∙ staged-total b t ∙ ap (λ (s : Bool). bookLong s (bookStates b) (bookGoals b)) (sym t)
+      | inr f ↦
+          elim (or-cases (eqb (bookTotal b) (bookLong false (bookStates b) (bookGoals b))) (staged b) h) [
+            | inl k ↦ sym e ∙ eqb-true _ _ k ∙ ap (λ (s : Bool). bookLong s (bookStates b) (bookGoals b)) (sym f)
+            | inr t ↦ absurd (not-both t f)
+          ]
+    ]
 
 pub book-ok : (b : List ℕ) → bookFault b ≡ 0 → BookOk b
 unfolding bookFault bookHeadOk rowsOk
@@ -146,7 +161,7 @@ book-ok b h =
       sizes = omega (arith, leb-true);
       rows-at = omega (arith, eqb-true);
       total = omega (arith, eqb-true);
-      size = omega (arith, eqb-true);
+      size = sort-size b (omega (arith, eqb-true)) (search);
       mask-ok = search;
       head = head-ok;
       rows = rows-ok;
@@ -174,6 +189,7 @@ pub record LentOk (s b : List ℕ) : Type 0 where
   pub states : bookStates b ≡ plantOf s .states
   pub moves : bookMoves b ≡ plantOf s .moves
   pub goals : bookGoals b ≡ plantOf s .goals
+  pub sort : staged b ≡ plantOf s .settles
   pub mask-ok : maskOk (plantOf s .moves) (bookMask b) ≡ true
 
 pub lent-ok : (s b : List ℕ) → lentFault s b ≡ 0 → LentOk s b
@@ -185,12 +201,17 @@ lent-ok s b h =
     let same = and-right (bookHeadOk b) (alike p b) (when-iff (bookHeadOk b && alike p b) 3 .0 (later .0)) in
     let sizes = simp and-iff at same in
     let moves-same : bookMoves b ≡ p .moves = omega (arith, eqb-true) in
+    let states-same : bookStates b ≡ p .states = omega (arith, eqb-true) in
+    let goals-same : bookGoals b ≡ p .goals = omega (arith, eqb-true) in
+    let total-same : bookTotal b ≡ bookLong (p .settles) (p .states) (p .goals) = omega (arith, eqb-true) in
+    let some-state : 0 < bookStates b = book-ok b (later .1) .sizes .states-least in
     record {
       plant = all .0;
       book = later .1;
-      states = omega (arith, eqb-true);
+      states = states-same;
       moves = moves-same;
-      goals = omega (arith, eqb-true);
+      goals = goals-same;
+      sort = staged-of b (p .settles) (rw (states-same, goals-same) total-same) some-state;
       mask-ok = rw moves-same at (book-ok b (later .1) .mask-ok);
     }
 
@@ -265,15 +286,15 @@ module _ (s b m : List ℕ) (room drops : ℕ) where
     pub list-at-once : withdrawFault s b (unionOf (masksOf m)) room drops ≡ 0
     list-at-once = sym (list-as (list-masks .0)) ∙ h
 
--- a preview answers as the withdrawal does with a book buffer that is long enough; 32,784 bytes are, unless the plant
+-- a preview answers as the withdrawal does with a book buffer that is long enough; 34,832 bytes are, unless the plant
 -- is refused
 module _ (s b : List ℕ) (gone room drops : ℕ) where
-  pub preview-as : bookLong (plantOf s .states) (plantOf s .goals) ≤ room
+  pub preview-as : bookLong (plantOf s .settles) (plantOf s .states) (plantOf s .goals) ≤ room
       → previewFault s b gone drops ≡ withdrawFault s b gone room drops
   unfolding previewFault withdrawFault roomFault bookRoom
   preview-as h = rw (le-leb _ _ h)
 
-  pub preview-as-longest : room ≡ 32784 → previewFault s b gone drops ≡ withdrawFault s b gone room drops
+  pub preview-as-longest : room ≡ 34832 → previewFault s b gone drops ≡ withdrawFault s b gone room drops
   unfolding previewFault withdrawFault
   preview-as-longest e =
       elim (same-number (lentFault s b) 0) [

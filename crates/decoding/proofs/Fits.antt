@@ -10,7 +10,7 @@ use lib.ListN.{length}
 use borrow.Author.Tests.{ltb-true}
 use Rattle.statements.specs.Sets.{bit, isIn, numbers}
 use Rattle.statements.specs.Plants.{Plant}
-use Rattle.statements.specs.Kept.{waitOf, listedMove}
+use Rattle.statements.specs.Kept.{stageOf, waitOf, listedMove}
 use Rattle.statements.specs.Books.{maskOk}
 use Rattle.sets.proofs.Members.{Sifted, sifted-member, numbers-holds, filter-length, length-numbers}
 use Rattle.decoding.proofs.Sizes.{Sizes}
@@ -19,6 +19,8 @@ pub record Fits (p : Plant) (mask : ℕ) (kept : List ℕ) : Type 0 where
   pub sizes : Sizes (p .states) (p .moves) (p .goals)
   pub mask-ok : maskOk (p .moves) mask ≡ true
   pub kept-set : Sifted (numbers (p .states) 0) kept
+  pub stages : p .settles ≡ true → (x : ℕ) → isIn x kept ≡ true
+      → (1 ≤ stageOf p mask kept x) × (stageOf p mask kept x ≤ p .states)
   pub waits : (x i : ℕ) → isIn x kept ≡ true → i < p .goals → waitOf p mask kept i x ≤ 1023
   pub moves-ok : (x i : ℕ) → isIn x kept ≡ true → i < p .goals
       → (listedMove p mask kept i x < p .moves) × (bit (listedMove p mask kept i x) mask ≡ true)

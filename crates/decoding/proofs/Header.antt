@@ -1,16 +1,20 @@
 -- The length of a book's bytes, and the eight numbers of its header read back. Assumes nothing.
 use mathlib.Core.Path.{_≡_, refl, sym, _∙_, ap}
+use mathlib.Core.Logic.{inl, inr}
 use mathlib.Core.Bool.{Bool, true, false}
 use mathlib.Core.List.{List}
-use Prim.Native.Nat.{ℕ, _*_}
+use Prim.Native.Nat.{ℕ, _+_, _*_, _<_}
 use native.Mathlib.Omega.{arith}
-use lib.ListN.{length}
-use Rattle.statements.specs.Sets.{pick, isIn}
+use lib.ListN.{length, length-append}
+use Rattle.statements.specs.Sets.{pick, isIn, joined}
 use Rattle.statements.specs.Plants.{word, Plant}
 use Rattle.statements.specs.Kept.{keptWithin}
-use Rattle.statements.specs.Books.{two, bookLong, entryOf, rowOf, headOf, bookBytes, bookStates, bookMoves, bookGoals}
+use Rattle.statements.specs.Books.{two, bookLong, entryOf, stagePart, rowOf, headOf, bookBytes, bookStates, bookMoves}
+use Rattle.statements.specs.Books.{bookGoals, bookTotal, staged}
 use Rattle.statements.specs.Books.{bookCount, bookMask, lessMask, bookWithin, keptBefore, withdrawnBook}
+use Rattle.sets.proofs.Tests.{decided}
 use Rattle.sets.proofs.Joined.{joined-length}
+use Rattle.decoding.proofs.Sizes.{opening, long-is, staged-of}
 
 pick-length : (t : Bool) (xs ys : List ℕ) (n : ℕ) → length xs ≡ n → length ys ≡ n → length (pick t xs ys) ≡ n
 pick-length true xs ys n h g = h
@@ -21,13 +25,31 @@ module _ (p : Plant) (mask : ℕ) (kept : List ℕ) where
   unfolding entryOf two
   entry-length x i = pick-length (isIn x kept) _ _ 4 refl refl
 
-  pub row-length : (x : ℕ) → length (rowOf p mask kept x) ≡ p .goals * 4
-  unfolding rowOf
-  row-length x = joined-length (entryOf p mask kept x) 4 (entry-length x) (p .goals) 0
+  pub stage-length : (x : ℕ) → length (stagePart p mask kept x) ≡ opening (p .settles)
+  unfolding stagePart opening two
+  stage-length x =
+      elim (decided (p .settles)) [
+        | inl e ↦ rw e refl
+        | inr e ↦ rw e refl
+      ]
 
-  pub book-length : length (bookBytes p mask kept) ≡ bookLong (p .states) (p .goals)
-  unfolding bookBytes headOf two bookLong
-  book-length = omega (arith, joined-length (rowOf p mask kept) (p .goals * 4) row-length (p .states) 0)
+  pub row-length : (x : ℕ) → length (rowOf p mask kept x) ≡ opening (p .settles) + p .goals * 4
+  unfolding rowOf
+  row-length x =
+      rw (
+        length-append (stagePart p mask kept x) (joined (p .goals) 0 (entryOf p mask kept x)),
+        stage-length x,
+        joined-length (entryOf p mask kept x) 4 (entry-length x) (p .goals) 0,
+      ) refl
+
+  pub book-length : length (bookBytes p mask kept) ≡ bookLong (p .settles) (p .states) (p .goals)
+  unfolding bookBytes headOf two
+  book-length =
+      omega (
+        arith,
+        long-is (p .settles) (p .states) (p .goals),
+        joined-length (rowOf p mask kept) (opening (p .settles) + p .goals * 4) row-length (p .states) 0,
+      )
 
   pub read-states : bookStates (bookBytes p mask kept) ≡ p .states
   unfolding bookStates bookBytes headOf two word
@@ -53,18 +75,24 @@ module _ (p : Plant) (mask : ℕ) (kept : List ℕ) where
   unfolding bookBytes headOf two word
   read-rows-at = refl
 
-  pub read-total : word 7 (bookBytes p mask kept) ≡ bookLong (p .states) (p .goals)
-  unfolding bookBytes headOf two word
+  pub read-total : bookTotal (bookBytes p mask kept) ≡ bookLong (p .settles) (p .states) (p .goals)
+  unfolding bookTotal bookBytes headOf two word
   read-total = omega arith
+
+  -- the sort of the plant is that of its books
+  pub read-staged : 0 < p .states → staged (bookBytes p mask kept) ≡ p .settles
+  read-staged l =
+      let b = bookBytes p mask kept in
+      staged-of b (p .settles) (rw (read-states, read-goals) read-total) (omega (arith, read-states))
 
 -- the length of the book within a set, and of that of a withdrawal
 pub within-length : (p : Plant) (mask : ℕ) (test : ℕ → Bool)
-    → length (bookWithin p mask test) ≡ bookLong (p .states) (p .goals)
+    → length (bookWithin p mask test) ≡ bookLong (p .settles) (p .states) (p .goals)
 unfolding bookWithin
 within-length p mask test = book-length p mask (keptWithin p mask test)
 
 pub withdrawn-length : (p : Plant) (b : List ℕ) (gone : ℕ)
-    → length (withdrawnBook p b gone) ≡ bookLong (p .states) (p .goals)
+    → length (withdrawnBook p b gone) ≡ bookLong (p .settles) (p .states) (p .goals)
 unfolding withdrawnBook
 withdrawn-length p b gone = within-length p (lessMask (bookMask b) gone) (keptBefore p b)
 

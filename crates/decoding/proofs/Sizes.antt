@@ -1,16 +1,19 @@
 -- The ranges of the numbers of states, moves and goals in plants and books, how long a book and a list of states can be,
 -- and that buffers with room have it. Assumes nothing.
 use mathlib.Core.Path.{_≡_, refl}
-use mathlib.Core.Bool.{true, not}
+use mathlib.Core.Logic.{inl, inr}
+use mathlib.Core.Bool.{Bool, true, false, not}
 use mathlib.Core.List.{List, [], _∷_}
-use Prim.Native.Nat.{ℕ, _*_, _≤_}
+use Prim.Native.Nat.{ℕ, _+_, _*_, _≤_, _<_}
 use native.Mathlib.Nat.{mul-le-mul}
 use native.Mathlib.Omega.{arith}
 use lib.ListN.{length}
-use borrow.Author.Tests.{leb-true}
+use borrow.Author.Tests.{leb-true, eqb-true, eq-eqb, ne-eqb}
 use Rattle.statements.specs.Sets.{numbers}
 use Rattle.statements.specs.Plants.{Plant}
-use Rattle.statements.specs.Books.{two, bytesOf, bookLong, bookStates, isLost, bookKept, droppedStates}
+use Rattle.statements.specs.Books.{two, bytesOf, bookLong, bookStates, bookGoals, bookTotal, staged, rowPlace}
+use Rattle.statements.specs.Books.{entryPlace, isLost, bookKept, droppedStates}
+use Rattle.sets.proofs.Tests.{decided}
 use Rattle.statements.specs.Calls.{bookRoom, dropRoom}
 use Rattle.sets.proofs.Members.{filter-length, length-numbers}
 
@@ -27,9 +30,53 @@ module _ {states moves goals : ℕ} (z : Sizes states moves goals) where
   pub entries-most : states * goals ≤ 1024 * 8
   entries-most = mul-le-mul (z .states-most) (z .goals-most)
 
-  pub long-most : bookLong states goals ≤ 32784
+  -- with stages or without
+  pub long-most : (t : Bool) → bookLong t states goals ≤ 34832
   unfolding bookLong
-  long-most = omega (arith, entries-most)
+  long-most true = omega (arith, entries-most)
+  long-most false = omega (arith, entries-most)
+
+-- how many bytes a row opens with: none, or a stage
+unfoldable pub opening : Bool → ℕ
+opening false = 0
+opening true = 2
+
+-- a book is its header and rows of one length
+pub long-is : (t : Bool) (s n : ℕ) → bookLong t s n ≡ 16 + s * (opening t + n * 4)
+unfolding bookLong opening
+long-is true s n = omega arith
+long-is false s n = omega arith
+
+-- the length tells the sorts apart
+pub staged-of : (b : List ℕ) (t : Bool) → bookTotal b ≡ bookLong t (bookStates b) (bookGoals b) → 0 < bookStates b →
+    staged b ≡ t
+unfolding staged bookLong
+staged-of b true e l = eq-eqb _ _ e
+staged-of b false e l =
+    let n = bookGoals b in
+    ne-eqb (bookTotal b) (16 + (2 * bookStates b + 4 * (bookStates b * n))) (omega arith)
+
+pub staged-total : (b : List ℕ) → staged b ≡ true → bookTotal b ≡ bookLong true (bookStates b) (bookGoals b)
+unfolding staged
+staged-total b e = eqb-true _ _ e
+
+-- where rows and entries stand
+pub row-place : (b : List ℕ) (x : ℕ) → rowPlace b x ≡ 16 + x * (opening (staged b) + bookGoals b * 4)
+unfolding rowPlace opening
+row-place b x =
+    elim (decided (staged b)) [
+      | inl e ↦ rw e (omega arith)
+      | inr e ↦ rw e (omega arith)
+    ]
+
+pub entry-place : (b : List ℕ) (x i : ℕ) →
+    entryPlace b x i ≡ 16 + (x * (opening (staged b) + bookGoals b * 4) + (opening (staged b) + i * 4))
+unfolding entryPlace opening
+entry-place b x i =
+    elim (decided (staged b)) [
+      | inl e ↦ rw e (omega arith)
+      | inr e ↦ rw e (omega arith)
+    ]
 
 -- two bytes for each number
 pub bytes-length : (xs : List ℕ) → length (bytesOf xs) ≡ 2 * length xs
@@ -53,7 +100,7 @@ dropped-few before after = omega (arith, filter-length (isLost after) (bookKept 
 
 -- a buffer that the checks accept has room
 module _ (p : Plant) (room : ℕ) where
-  pub book-fits : bookRoom p room ≡ true → bookLong (p .states) (p .goals) ≤ room
+  pub book-fits : bookRoom p room ≡ true → bookLong (p .settles) (p .states) (p .goals) ≤ room
   unfolding bookRoom
   book-fits h = leb-true _ _ h
 

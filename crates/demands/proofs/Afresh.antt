@@ -20,8 +20,8 @@ use Rattle.decoding.proofs.Masks.{less-bit, less-ok, less-none, less-both}
 use Rattle.decoding.proofs.Header.{same-mask}
 use Rattle.decoding.proofs.Accepted.{book-alike}
 use Rattle.decoding.proofs.Faults.{PlantOk, allowed-below}
-use Rattle.demands.proofs.Plants.{Given, given-allowed}
-use Rattle.demands.proofs.Rules.{lost-kept, book-mask}
+use Rattle.demands.proofs.Plants.{Given, given-allowed, some-goal}
+use Rattle.demands.proofs.Rows.{lost-kept, book-mask}
 use Rattle.demands.proofs.Books.{accepted}
 
 -- equal books of makings have the same moves in service
@@ -51,7 +51,8 @@ module _ {p : Plant} {m : ℕ} {within : ℕ → Bool} (given : Given p m within
   unfolding keptBefore
   still-before gone x h =
       let r = kept-within p (lessMask m gone) within x h in
-      let k = kept-more p (lessMask m gone) m within within (λ u e. less-bit u m gone e .0) (λ y e. e) x h in
+      let k =
+      kept-more p (lessMask m gone) m within within (some-goal given) (λ u e. less-bit u m gone e .0) (λ y e. e) x h in
       and-true (inside x (r .1)) (ap not (lost-kept given x (r .0) .1 k))
 
   -- withdrawing from it gives the book within the same states
@@ -61,7 +62,8 @@ module _ {p : Plant} {m : ℕ} {within : ℕ → Bool} (given : Given p m within
   withdrawn-within gone =
       rw (book-mask given)
       (ap (bookBytes p (lessMask m gone))
-      (kept-between p (lessMask m gone) (keptBefore p (bookWithin p m within)) within kept-inside (still-before gone)))
+      (kept-between p (lessMask m gone) (keptBefore p (bookWithin p m within)) within (some-goal given) kept-inside
+      (still-before gone)))
 
 -- and so do withdrawals in turn, for the moves that none of them names
 pub within-in-turn :

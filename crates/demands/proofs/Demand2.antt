@@ -10,19 +10,19 @@ use native.Mathlib.Omega.{arith}
 use borrow.Author.Tests.{not-true}
 use lib.ListN.{length}
 use Rattle.statements.specs.Sets.{isIn, numbers, filter}
-use Rattle.statements.specs.Plants.{plantOf, allowed}
+use Rattle.statements.specs.Plants.{Plant, plantOf, allowed}
 use Rattle.statements.specs.Books.{bookStates, bookCount, bookMask, isLost, bookKept, lessMask, madeBook, keptBefore}
 use Rattle.statements.specs.Books.{withdrawnBook, droppedStates}
 use Rattle.statements.specs.Calls.{withdrawFault}
 use Rattle.statements.specs.Demands.{IsBook, KeptBefore, Rising, Demand-2}
-use Rattle.sets.proofs.Tests.{and-true, and-right, same-test}
+use Rattle.sets.proofs.Tests.{and-true, and-left, and-right, same-test}
 use Rattle.sets.proofs.Members.{filter-holds, filter-in, filter-same, filter-filter, filter-parts, numbers-holds}
 use Rattle.sets.proofs.Members.{numbers-in}
 use Rattle.sets.proofs.Rising.{filter-rises}
 use Rattle.kept.proofs.Kept.{kept-within}
 use Rattle.decoding.proofs.Faults.{book-ok, withdraw-ok}
 use Rattle.demands.proofs.Plants.{given-made, given-withdrawn}
-use Rattle.demands.proofs.Rules.{lost-kept}
+use Rattle.demands.proofs.Rows.{lost-kept}
 use Rattle.demands.proofs.Books.{is-book, right}
 
 -- the states kept in any book
@@ -112,6 +112,13 @@ module _ (s b : List ℕ) (gone room drops : ℕ) (h : withdrawFault s b gone ro
       (λ x hx e. kept-before x (omega (arith, hx, lent .states)) e) in
       omega (arith, parts, new .count, book-ok b (lent .book) .count)
 
+before-iff : (p : Plant) (b : List ℕ) (x : ℕ) → KeptBefore p b x ↔ ((allowed p x ≡ true) × (isLost b x ≡ false))
+unfolding keptBefore
+before-iff p b x = (
+  λ h. (and-left (allowed p x) _ h, not-true (isLost b x) (and-right (allowed p x) _ h)),
+  λ q. and-true (q .0) (ap not (q .1)),
+)
+
 -- demand 2
 pub demand-2 : Demand-2
 unfolding madeBook withdrawnBook
@@ -119,6 +126,7 @@ demand-2 =
     record {
       made = λ s mask room h. right (given-made s mask room h);
       withdrawn = λ s b gone room drops h. right (given-withdrawn s b gone room drops h);
+      before = before-iff;
       dropped = λ s b gone room drops h x.
           rw (withdraw-ok s b gone room drops h .lent .states) at (dropped-iff b (withdrawnBook (plantOf s) b gone) x);
       rising = dropped-rising;

@@ -1,8 +1,11 @@
--- Demands 2 and 3 and requests (vi) and (vii) proved, and the laws of books that lead there. Each file leans on those
--- above it alone.
+-- Demands 2 and 3 and requests (vi), (vii) and (ix) proved, and the laws of books that lead there. Each file leans on
+-- those above it alone.
 pub mod Plants
+pub mod Rows
 pub mod Rules
 pub mod Winners
+pub mod Staying
+pub mod Words
 pub mod Same
 pub mod Picks
 pub mod Books

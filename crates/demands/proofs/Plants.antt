@@ -5,17 +5,16 @@ use mathlib.Core.Bool.{Bool, true, not}
 use mathlib.Core.List.{List}
 use Prim.Native.Nat.{ℕ, _<_}
 use native.Mathlib.Omega.{arith}
-use Rattle.statements.specs.Sets.{numbers, isIn}
-use Rattle.statements.specs.Plants.{Plant, plantOf, ends, allowed}
-use Rattle.statements.specs.Kept.{keptWithin, waitOf, nearer, listedMove}
+use Rattle.statements.specs.Sets.{isIn}
+use Rattle.statements.specs.Plants.{Plant, plantOf, ends, allowed, moveInto}
+use Rattle.statements.specs.Kept.{keptWithin, stageFor, waitOf, landing, listedMove}
 use Rattle.statements.specs.Books.{isLost, bookMask, maskOk, lessMask, keptBefore}
 use Rattle.statements.specs.Calls.{makeFault, withdrawFault}
 use Rattle.sets.proofs.Tests.{and-left}
-use Rattle.sets.proofs.Members.{length-numbers}
-use Rattle.sets.proofs.Iterate.{sifted-length}
+use Rattle.sets.proofs.Iterate.{sifted-few}
 use Rattle.kept.proofs.Moves.{MovesBelow, available-bit, into-available}
-use Rattle.kept.proofs.Kept.{kept-sifted, kept-forced}
-use Rattle.kept.proofs.Waits.{wait-short, listed-into}
+use Rattle.kept.proofs.Kept.{kept-sifted, for-sound, for-through, through-sifted, stage-range}
+use Rattle.kept.proofs.Waits.{wait-short, landing-move}
 use Rattle.decoding.proofs.Fits.{Fits}
 use Rattle.decoding.proofs.Masks.{less-ok}
 use Rattle.decoding.proofs.Faults.{PlantOk, plant-ok, arrow-range, allowed-below, make-ok, LentOk, withdraw-ok}
@@ -76,24 +75,27 @@ module _ {p : Plant} {mask : ℕ} {within : ℕ → Bool} (given : Given p mask 
 
   -- the numbers of the book fit its bytes
   pub given-fits : Fits p mask (keptWithin p mask within)
+  unfolding waitOf listedMove
   given-fits =
       let kept = keptWithin p mask within in
-      let all = numbers (p .states) 0 in
-      let fixed = kept-forced p mask within in
       record {
         sizes = given .plant .sizes;
         mask-ok = given .mask-ok;
         kept-set = kept-sifted p mask within;
+        stages = λ e x h. stage-range p mask within some-goal x h e;
         waits = λ x i h hi.
+            let s = stageFor p mask kept x in
             omega (
               arith,
-              wait-short p mask kept some-goal fixed i hi x h,
-              length-numbers (p .states) 0,
-              sifted-length all kept (kept-sifted p mask within),
+              wait-short p mask s some-goal (for-sound p mask within some-goal x h) i hi x
+                  (for-through p mask within some-goal x h),
+              sifted-few (p .states) (s .through) (through-sifted p mask within some-goal x h),
             );
         moves-ok = λ x i h hi.
-            let w = waitOf p mask kept i x in
-            let u = listedMove p mask kept i x in
-            let r = listed-into p mask kept some-goal fixed i hi x h in
-            (r .0, available-bit p mask x u (into-available p mask (nearer p mask kept i w) x u (r .1)));
+            let land = landing p mask (stageFor p mask kept x) i x in
+            let u = moveInto p mask land x in
+            let r =
+            landing-move p mask (stageFor p mask kept x) some-goal (for-sound p mask within some-goal x h) i hi x
+            (for-through p mask within some-goal x h) in
+            (r .0, available-bit p mask x u (into-available p mask land x u (r .1)));
       }

@@ -18,8 +18,8 @@ use Rattle.statements.specs.Demands.{Allowed, Right, Returning}
 use Rattle.kept.proofs.Kept.{kept-more}
 use Rattle.decoding.proofs.Masks.{less-ok, less-or, or-names}
 use Rattle.decoding.proofs.Faults.{plant-ok, make-ok, return-make}
-use Rattle.demands.proofs.Plants.{given-made}
-use Rattle.demands.proofs.Rules.{lost-kept}
+use Rattle.demands.proofs.Plants.{given-made, some-goal}
+use Rattle.demands.proofs.Rows.{lost-kept}
 use Rattle.demands.proofs.Demand2.{dropped-iff, dropped-rising, parts-add-up, demand-2}
 use Rattle.demands.proofs.Afresh.{withdrawn-afresh, returned-afresh}
 
@@ -73,8 +73,8 @@ module _ (s : List ℕ) (mask room : ℕ) (h : makeFault s mask room ≡ 0) wher
         let p = plantOf s in
         let before = lost-kept (given-made s mask room h) x hx .0 e in
         let now =
-        kept-more p mask (bitOr mask back) (allowed p) (allowed p) (λ u e. or-names mask back u .1 (inl e)) (λ y e. e) x
-        before in
+        kept-more p mask (bitOr mask back) (allowed p) (allowed p) (some-goal (given-made s mask room h))
+        (λ u e. or-names mask back u .1 (inl e)) (λ y e. e) x before in
         ap (λ b. isLost b x) (returned back)
         ∙ lost-kept (given-made s (bitOr mask back) next-room next) x hx .1 now
 

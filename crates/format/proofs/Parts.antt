@@ -9,6 +9,8 @@ use native.Mathlib.Omega.{arith}
 use lib.Dec.{ltb, leb}
 use lib.ListN.{getD, drop, List·getD-eq-default}
 use lib.Seq.{drop-drop}
+use lib.Bits.{bitAnd}
+use Rattle.statements.specs.Sets.{pick}
 use Rattle.statements.specs.Plants.{word, Arrow, words, arrowsFrom, labelsOk, rank, arrowsOk}
 use Rattle.decoding.proofs.Faults.{words-length}
 use Rattle.format.proofs.Words.{word-further}
@@ -46,25 +48,27 @@ pub label-past : (s : List ℕ) (at n x : ℕ) → n ≤ x → getD (words n (dr
 label-past s at n x h = List·getD-eq-default (words n (drop at s)) 0 (rw words-length h)
 
 -- a loop over labels: while some are left, the next one is tested and the rest stand for all
-module _ (goals : ℕ) (s : List ℕ) (at left : ℕ) where
+module _ (free : Bool) (goals : ℕ) (s : List ℕ) (at left : ℕ) where
   -- the labels from the place on are in range
   abbrev All : Bool
-  All = labelsOk goals (words left (drop at s))
+  All = labelsOk free goals (words left (drop at s))
 
   -- the next one is
   abbrev Next : Bool
-  Next = ltb (word 0 (drop at s)) (2 ^ suc goals)
+  Next =
+      let l = word 0 (drop at s) in
+      ltb (pick free (l - bitAnd l 512) l) (2 ^ suc goals)
 
   -- those after it are
   abbrev After : Bool
-  After = labelsOk goals (words (left - 1) (drop (at + 2) s))
+  After = labelsOk free goals (words (left - 1) (drop (at + 2) s))
 
   -- one turn: the next label, and those after it
   labels-turn : 0 < left → All ≡ Next && After
   unfolding labelsOk
   labels-turn more =
-      ap (λ (n : ℕ). labelsOk goals (words n (drop at s))) (one-less left more)
-      ∙ ap (labelsOk goals) (labels-more s at (left - 1))
+      ap (λ (n : ℕ). labelsOk free goals (words n (drop at s))) (one-less left more)
+      ∙ ap (labelsOk free goals) (labels-more s at (left - 1))
 
   -- the next label is in range
   pub labels-pass : 0 < left → Next ≡ true → All ≡ After

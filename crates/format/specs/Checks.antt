@@ -4,7 +4,7 @@ use Rattle.statements.specs.Plants.{Plant, labelsOk, arrowsOk}
 
 -- every label of a plant is in range
 abbrev pub labelsFine : Plant → Bool
-labelsFine p = labelsOk (p .goals) (p .labels)
+labelsFine p = labelsOk (p .settles) (p .goals) (p .labels)
 
 -- every arrow of a plant is in range, and the arrows strictly ascend
 abbrev pub arrowsFine : Plant → Bool

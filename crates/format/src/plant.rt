@@ -5,14 +5,16 @@ use crate::word::word_at;
 use crate::word::word_in;
 ghost use mathlib.Core.Path.{_≡_};
 ghost use mathlib.Core.Bool.{true};
-ghost use Prim.Native.Nat.{_+_, _*_, _≤_};
+ghost use Prim.Native.Nat.{_+_, _-_, _*_, _≤_};
+ghost use lib.Bits.{bitAnd};
 ghost use lib.ListN.{length, getD, drop};
 ghost use Rattle.format.specs.Checks.{labelsFine, arrowsFine};
-ghost use Rattle.statements.specs.Plants.{words, arrowsFrom, plantOf, allowed, inGoal};
+ghost use Rattle.statements.specs.Sets.{pick};
+ghost use Rattle.statements.specs.Plants.{words, arrowsFrom, plantOf, allowed, settled};
 ghost use Rattle.statements.specs.Plants.{headOk, labelsOk, arrowsOk};
 ghost use Rattle.statements.specs.Books.{bookLong};
 
-// The header is as document 01 says, and the slice is as long as the header says.
+// The header is as document 01 says, with 0 or 1 for its last number, and the slice is as long as the header says.
 pub(crate) fn head_ok(plant: &[u8]) -> bool
     ensures { λ r. ⌜ r ≡ headOk (now (plant .entry)) ⌝ }
 {
@@ -37,20 +39,38 @@ pub(crate) fn head_ok(plant: &[u8]) -> bool
                                 & ((labels == 16)
                                     & ((arrows == 16 + 2 * s)
                                         & ((total == 16 + (2 * s + 6 * e))
-                                            & ((last == 0) & (plant.len() == total)))))))))))
+                                            & ((last <= 1) & (plant.len() == total)))))))))))
 }
 
-// No label of the slice's first ones, as many as given from byte 16 on, has a bit above bit `goals`.
-fn labels_within(plant: &[u8], count: usize, goals: u32) -> bool
+// The plant settles: its last header number is 1.
+pub fn settles(plant: &[u8]) -> bool
+    ensures { λ r. ⌜ r ≡ plantOf (now (plant .entry)) .settles ⌝ }
+{
+    number(plant, 7) == 1
+}
+
+// A label less bit 9 where that is free.
+fn checked(label: u16, free: bool) -> u16
+    ensures { λ r. ⌜ r ≡ pick free (label - bitAnd label 512) label ⌝ }
+{
+    if free {
+        return label - (label & 512);
+    }
+    label
+}
+
+// No label of the slice's first ones, as many as given from byte 16 on, has a bit above bit `goals`, bit 9 left aside
+// where it is free.
+fn labels_within(plant: &[u8], count: usize, goals: u32, free: bool) -> bool
     requires room { ⌜ 16 + 2 * count ≤ length (now plant) ⌝ }
     requires few { ⌜ goals ≤ 8 ⌝ }
-    ensures { λ r. ⌜ r ≡ labelsOk goals (words count (drop 16 (now (plant .entry)))) ⌝ }
+    ensures { λ r. ⌜ r ≡ labelsOk free goals (words count (drop 16 (now (plant .entry)))) ⌝ }
 {
     let limit: u32 = 1 << (goals + 1);
     let mut at = 16;
     let mut left = count;
     while 0 < left {
-        if limit <= (word_in(plant, at) as u32) {
+        if limit <= (checked(word_in(plant, at), free) as u32) {
             return false;
         }
         at += 2;
@@ -94,7 +114,12 @@ pub(crate) fn labels_ok(plant: &[u8]) -> bool
     requires { ⌜ headOk (now plant) ≡ true ⌝ }
     ensures { λ r. ⌜ r ≡ labelsFine (plantOf (now (plant .entry))) ⌝ }
 {
-    labels_within(plant, number(plant, 0) as usize, number(plant, 2) as u32)
+    labels_within(
+        plant,
+        number(plant, 0) as usize,
+        number(plant, 2) as u32,
+        settles(plant),
+    )
 }
 
 // Every arrow of a plant with a good header is in range, and the arrows strictly ascend.
@@ -109,9 +134,15 @@ pub(crate) fn arrows_ok(plant: &[u8]) -> bool
 
 // The length of a plant's books.
 pub fn book_long(plant: &[u8]) -> usize
-    ensures { λ r. ⌜ r ≡ bookLong (plantOf (now (plant .entry)) .states) (plantOf (now (plant .entry)) .goals) ⌝ }
+    ensures { λ r. ⌜ r ≡ bookLong (plantOf (now (plant .entry)) .settles) (plantOf (now (plant .entry)) .states)
+        (plantOf (now (plant .entry)) .goals) ⌝ }
 {
-    16 + 4 * ((number(plant, 0) as usize) * (number(plant, 2) as usize))
+    let states = number(plant, 0) as usize;
+    let entries = 4 * (states * (number(plant, 2) as usize));
+    if settles(plant) {
+        return 16 + (2 * states + entries);
+    }
+    16 + entries
 }
 
 // The label of a state; 0 for a number that is no state.
@@ -131,13 +162,9 @@ pub fn is_allowed(plant: &[u8], state: u32) -> bool
     bit_at(label(plant, state) as u32, 0)
 }
 
-// A state is in a goal.
-pub fn in_goal(plant: &[u8], goal: u32, state: u32) -> bool
-    ensures { λ r. ⌜ r ≡ inGoal (plantOf (now (plant .entry))) goal state ⌝ }
+// A state is settled.
+pub fn is_settled(plant: &[u8], state: u32) -> bool
+    ensures { λ r. ⌜ r ≡ settled (plantOf (now (plant .entry))) state ⌝ }
 {
-    let bits = label(plant, state) as u32;
-    if 31 <= goal {
-        return false;
-    }
-    bit_at(bits, goal + 1)
+    bit_at(label(plant, state) as u32, 9)
 }

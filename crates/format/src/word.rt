@@ -7,7 +7,7 @@ ghost use Rattle.statements.specs.Plants.{word};
 ghost use Rattle.statements.specs.Books.{maskAt, maskOk, masksOf, unionOf};
 
 // The number of a low and a high byte.
-fn pair(low: u8, high: u8) -> u16
+pub fn pair(low: u8, high: u8) -> u16
     ensures { λ r. ⌜ r ≡ low + 256 * high ⌝ }
 {
     (low as u16) + 256 * (high as u16)

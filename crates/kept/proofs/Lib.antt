@@ -1,5 +1,7 @@
 pub mod Moves
 pub mod Reach
-pub mod Kept
+pub mod Held
 pub mod Waits
 pub mod Ranks
+pub mod Stages
+pub mod Kept

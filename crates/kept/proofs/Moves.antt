@@ -14,7 +14,7 @@ use borrow.Author.Tests.{ltb-true, lt-ltb, leb-true}
 use Rattle.statements.specs.Sets.{bit, bits, first, lowest, isIn, allIn}
 use Rattle.statements.specs.Plants.{Plant, ends, available, goesInto, moveInto, movesInto, can}
 use Rattle.sets.proofs.Tests.{decided, not-both, and-true, and-left, and-right, and-false, same-test}
-use Rattle.sets.proofs.Members.{isIn-here, allIn-at, allIn-all, allIn-fails}
+use Rattle.sets.proofs.Members.{isIn-here, isIn-none, allIn-at, allIn-all, allIn-fails}
 use Rattle.sets.proofs.First.{first-holds, first-least, first-before}
 use Rattle.sets.proofs.Bits.{bits-at, bits-past, lowest-bits}
 
@@ -116,6 +116,14 @@ can-more p m n ys zs x w s h =
     can-by p n zs x u (r .0)
     (into-all p n zs x u (available-more p m n x u w (into-available p m ys x u (r .1)))
     (λ y e. s y (into-ends p m ys x u (r .1) y e)))
+
+-- no move goes wholly into no states
+pub can-none : (p : Plant) (mask x : ℕ) → can p mask [] x ≡ true → ⊥
+can-none p mask x c =
+    let r = can-move p mask [] x c in
+    let u = moveInto p mask [] x in
+    let e = available-end p mask x u (into-available p mask [] x u (r .1)) in
+    isIn-none (e .0) (into-ends p mask [] x u (r .1) (e .0) (e .1))
 
 -- where no move goes into the set, each available one has an end outside
 pub can-not : (p : Plant) (mask : ℕ) (ys : List ℕ) (x u : ℕ) → MovesBelow p → can p mask ys x ≡ false →

@@ -1,8 +1,8 @@
 -- The attractor: the states of a set from which a target is forced. It holds the target, is closed under the
 -- controllable predecessor within the set, and is the least such set. Assumes nothing.
 use mathlib.Core.Path.{_≡_}
-use mathlib.Core.Logic.{_⊎_, ⊎-elim}
-use mathlib.Core.Bool.{true, _&&_, _||_}
+use mathlib.Core.Logic.{_⊎_, inl, inr, ⊎-elim}
+use mathlib.Core.Bool.{Bool, true, _&&_, _||_}
 use mathlib.Core.List.{List}
 use Prim.Native.Nat.{ℕ, zero, suc, _+_, _≤_}
 use native.Mathlib.Omega.{arith}
@@ -48,7 +48,9 @@ module _ (p : Plant) (mask : ℕ) (all : List ℕ) where
         grown p mask all (iterate n (grown p mask all) start) ≡ iterate n (grown p mask all) start
     steps-full n h =
         grown-full all start (grown p mask all) begins grown-sifted
-        (λ ys s x m. grown-same ys x (sifted-member all ys s x m) m) n h
+        (λ k x m.
+        let ys = iterate k (grown p mask all) start in
+        grown-same ys x (sifted-member all ys (steps-sifted k) x m) m) n h
 
     pub steps-more : (n : ℕ) → Sub (iterate n (grown p mask all) start) (iterate (suc n) (grown p mask all) start)
     unfolding iterate
@@ -79,52 +81,72 @@ module _ (p : Plant) (mask : ℕ) (all : List ℕ) where
       ⊎-elim (λ m. ih x m)
       (λ m. c x (r .0) (can-more p mask mask (iterate n (grown p mask all) start) zs x (λ u e. e) ih m)) (r .1)
 
-  -- a state in goal i that can go on
-  pub target-holds : (i x : ℕ) → isIn x (target p mask all i) ≡ true →
-      (isIn x all ≡ true) × (inGoal p i x ≡ true) × (can p mask all x ≡ true)
-  unfolding target
-  target-holds i x h =
-      let r = filter-holds (λ z. inGoal p i z && can p mask all z) all x h in
-      (r .0, and-left (inGoal p i x) (can p mask all x) (r .1), and-right (inGoal p i x) (can p mask all x) (r .1))
+  -- the target, with some states at which a run is over
+  module _ (done : ℕ → Bool) where
+    -- a state at which a run is over, or one in goal i that can go on
+    pub target-holds : (i x : ℕ) → isIn x (target p mask done all i) ≡ true →
+        (isIn x all ≡ true) × ((done x ≡ true) ⊎ ((inGoal p i x ≡ true) × (can p mask all x ≡ true)))
+    unfolding target
+    target-holds i x h =
+        let r = filter-holds (λ z. done z || (inGoal p i z && can p mask all z)) all x h in
+        let on = inGoal p i x && can p mask all x in (
+          r .0,
+          ⊎-elim (λ e. inl e)
+              (λ e. inr (and-left (inGoal p i x) (can p mask all x) e, and-right (inGoal p i x) (can p mask all x) e))
+              (or-cases (done x) on (r .1)),
+        )
 
-  pub target-in : (i x : ℕ) → isIn x all ≡ true → inGoal p i x ≡ true → can p mask all x ≡ true →
-      isIn x (target p mask all i) ≡ true
-  unfolding target
-  target-in i x a g c = filter-in (λ z. inGoal p i z && can p mask all z) all x a (and-true g c)
+    pub target-done : (i x : ℕ) → isIn x all ≡ true → done x ≡ true → isIn x (target p mask done all i) ≡ true
+    unfolding target
+    target-done i x a e =
+        filter-in (λ z. done z || (inGoal p i z && can p mask all z)) all x a
+        (or-left (done x) (inGoal p i x && can p mask all x) e)
 
-  target-sifted : (i : ℕ) → Sifted all (target p mask all i)
-  unfolding target
-  target-sifted i = sifted-filter (λ z. inGoal p i z && can p mask all z) all
+    pub target-in : (i x : ℕ) → isIn x all ≡ true → inGoal p i x ≡ true → can p mask all x ≡ true →
+        isIn x (target p mask done all i) ≡ true
+    unfolding target
+    target-in i x a g c =
+        filter-in (λ z. done z || (inGoal p i z && can p mask all z)) all x a
+        (or-right (done x) (inGoal p i x && can p mask all x) (and-true g c))
 
-  -- the states from which goal i is forced within the set
-  pub forced-sifted : (i : ℕ) → Sifted all (forced p mask all i)
-  unfolding forced
-  forced-sifted i = steps-sifted (target p mask all i) (target-sifted i) (length all)
+    target-sifted : (i : ℕ) → Sifted all (target p mask done all i)
+    unfolding target
+    target-sifted i = sifted-filter (λ z. done z || (inGoal p i z && can p mask all z)) all
 
-  pub forced-target : (i x : ℕ) → isIn x (target p mask all i) ≡ true → isIn x (forced p mask all i) ≡ true
-  unfolding forced
-  forced-target i = steps-start (target p mask all i) (target-sifted i) (length all)
+    -- the states from which goal i is forced within the set
+    pub forced-sifted : (i : ℕ) → Sifted all (forced p mask done all i)
+    unfolding forced
+    forced-sifted i = steps-sifted (target p mask done all i) (target-sifted i) (length all)
 
-  pub forced-closed : (i x : ℕ) → isIn x all ≡ true → can p mask (forced p mask all i) x ≡ true →
-      isIn x (forced p mask all i) ≡ true
-  unfolding forced
-  forced-closed i x a h =
-      rw (← steps-full (target p mask all i) (target-sifted i) (length all) (omega arith))
-      (grown-can (iterate (length all) (grown p mask all) (target p mask all i)) x a h)
+    pub forced-target : (i x : ℕ) → isIn x (target p mask done all i) ≡ true → isIn x (forced p mask done all i) ≡ true
+    unfolding forced
+    forced-target i = steps-start (target p mask done all i) (target-sifted i) (length all)
 
-  pub forced-least : (i : ℕ) (zs : List ℕ) → Sub (target p mask all i) zs →
-      ((x : ℕ) → isIn x all ≡ true → can p mask zs x ≡ true → isIn x zs ≡ true) → Sub (forced p mask all i) zs
-  unfolding forced
-  forced-least i zs b c = steps-least (target p mask all i) zs b c (length all)
+    pub forced-closed : (i x : ℕ) → isIn x all ≡ true → can p mask (forced p mask done all i) x ≡ true →
+        isIn x (forced p mask done all i) ≡ true
+    unfolding forced
+    forced-closed i x a h =
+        rw (← steps-full (target p mask done all i) (target-sifted i) (length all) (omega arith))
+        (grown-can (iterate (length all) (grown p mask all) (target p mask done all i)) x a h)
 
-  pub forced-all : (i : ℕ) → Sub (forced p mask all i) all
-  forced-all i x h = sifted-member all (forced p mask all i) (forced-sifted i) x h
+    pub forced-least : (i : ℕ) (zs : List ℕ) → Sub (target p mask done all i) zs →
+        ((x : ℕ) → isIn x all ≡ true → can p mask zs x ≡ true → isIn x zs ≡ true) → Sub (forced p mask done all i) zs
+    unfolding forced
+    forced-least i zs b c = steps-least (target p mask done all i) zs b c (length all)
 
--- more moves in service and a larger set force from more states
-pub forced-more : (p : Plant) (m n : ℕ) (xs ys : List ℕ) (i : ℕ) → MaskWithin m n → Sub xs ys →
-    Sub (forced p m xs i) (forced p n ys i)
-forced-more p m n xs ys i w s =
-    forced-least p m xs i (forced p n ys i)
-    (λ x h. let r = target-holds p m xs i x h in
-    forced-target p n ys i x (target-in p n ys i x (s x (r .0)) (r .1) (can-more p m n xs ys x w s (r .2))))
-    (λ x a h. forced-closed p n ys i x (s x a) (can-more p m n (forced p n ys i) (forced p n ys i) x w (λ y e. e) h))
+    pub forced-all : (i : ℕ) → Sub (forced p mask done all i) all
+    forced-all i x h = sifted-member all (forced p mask done all i) (forced-sifted i) x h
+
+-- more moves in service, a larger set and more states at which a run is over force from more states
+pub forced-more : (p : Plant) (m n : ℕ) (done more : ℕ → Bool) (xs ys : List ℕ) (i : ℕ) → MaskWithin m n →
+    ((x : ℕ) → isIn x xs ≡ true → done x ≡ true → more x ≡ true) → Sub xs ys →
+    Sub (forced p m done xs i) (forced p n more ys i)
+forced-more p m n done more xs ys i w d s =
+    forced-least p m xs done i (forced p n more ys i)
+    (λ x h. let r = target-holds p m xs done i x h in
+    forced-target p n ys more i x
+    (⊎-elim (λ e. target-done p n ys more i x (s x (r .0)) (d x (r .0) e))
+    (λ e. target-in p n ys more i x (s x (r .0)) (e .0) (can-more p m n xs ys x w s (e .1))) (r .1)))
+    (λ x a h.
+    forced-closed p n ys more i x (s x a)
+    (can-more p m n (forced p n more ys i) (forced p n more ys i) x w (λ y e. e) h))

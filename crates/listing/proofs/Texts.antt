@@ -12,7 +12,8 @@ use lib.Seq.{getD-drop}
 use borrow.Author.Tests.{eq-eqb, ne-eqb}
 use Rattle.statements.specs.Sets.{joined}
 use Rattle.statements.specs.Plants.{word}
-use Rattle.statements.specs.Books.{bookStates, bookGoals, bookCount, bookMask, waitAt, moveAt, isLost, bookFault}
+use Rattle.statements.specs.Books.{bookStates, bookGoals, bookCount, bookMask, entryPlace, waitAt, moveAt, isLost}
+use Rattle.statements.specs.Books.{bookFault}
 use Rattle.sets.proofs.Tests.{decided}
 use Rattle.decoding.proofs.Faults.{book-ok}
 use Rattle.listing.specs.Text.{figure, ofText, keptText, movesText, space, newline, lostText}
@@ -81,7 +82,7 @@ module _ (b : List ℕ) (bytes : (k : ℕ) → getD b k 0 < 256) where
   line-few : (x i : ℕ) → x < 65536 → i < 65536 → length (lineText b x i) ≤ 24
   unfolding space newline waitAt moveAt
   line-few x i hx hi =
-      let place = 16 + 4 * (x * bookGoals b + i) in
+      let place = entryPlace b x i in
       omega (
         arith,
         line-long b x i,

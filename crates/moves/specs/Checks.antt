@@ -1,11 +1,22 @@
--- The test of the end of an arrow, which only a function inside this crate promises.
+-- Where a move may lead, by a part of the rule of an entry, and the test of the end of an arrow, which only functions
+-- inside this crate promise.
 use mathlib.Core.Bool.{Bool, _&&_, _||_, not}
 use mathlib.Core.List.{List}
 use Prim.Native.Nat.{ℕ}
 use lib.Dec.{eqb, ltb}
-use Rattle.statements.specs.Books.{bookStates, waitAt, isLost}
+use Rattle.statements.specs.Sets.{filter}
+use Rattle.statements.specs.Books.{bookStates, stageAt, waitAt, isLost, bookKept}
 
--- a book keeps state y, above wait 0 one with a smaller wait for goal i
-unfoldable pub nearerThan : List ℕ → ℕ → ℕ → ℕ → Bool
-nearerThan b wait i y =
-    ltb y (bookStates b) && (not (isLost b y) && (eqb wait 0 || ltb (waitAt b y i) wait))
+-- state y is of an earlier stage than the one given, or, unless only these count, of that stage and above wait 0 with a
+-- smaller wait for goal i
+unfoldable pub closer : List ℕ → ℕ → ℕ → ℕ → Bool → ℕ → Bool
+closer b stage wait i early y =
+    ltb (stageAt b y) stage || (not early && (eqb (stageAt b y) stage && (eqb wait 0 || ltb (waitAt b y i) wait)))
+
+-- a book keeps such a state
+unfoldable pub nearerThan : List ℕ → ℕ → ℕ → ℕ → Bool → ℕ → Bool
+nearerThan b stage wait i early y = ltb y (bookStates b) && (not (isLost b y) && closer b stage wait i early y)
+
+-- the states of earlier stages than that of state x, or those of the rule of its entry for goal i
+unfoldable pub leadsIn : List ℕ → Bool → ℕ → ℕ → List ℕ
+leadsIn b early x i = filter (closer b (stageAt b x) (waitAt b x i) i early) (bookKept b)

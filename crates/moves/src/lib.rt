@@ -6,27 +6,34 @@ use format::word::bit_at;
 use format::word::number;
 use rows::is_lost;
 use rows::mask;
+use rows::stage_at;
+use rows::staged;
 use rows::wait_at;
 ghost use mathlib.Core.Path.{_≡_};
 ghost use Rattle.statements.specs.Plants.{plantOf, movesInto};
-ghost use Rattle.statements.specs.Books.{bookMask, nearerIn, goodMoves};
-ghost use Rattle.moves.specs.Checks.{nearerThan};
+ghost use Rattle.statements.specs.Books.{bookMask, goodMoves};
+ghost use Rattle.moves.specs.Checks.{nearerThan, leadsIn};
 
-// The end of an arrow is a state that the book keeps, above wait 0 one with a smaller wait for the goal.
-fn nearer(book: &[u8], wait: u16, goal: u32, end: u32) -> bool
-    ensures { λ r. ⌜ r ≡ nearerThan (now (book .entry)) wait goal end ⌝ }
+// The end of an arrow is a state that the book keeps, of an earlier stage; or, unless only these count, of the stage
+// given and above wait 0 with a smaller wait for the goal. Without stages all are of one.
+fn nearer(book: &[u8], stage: u16, wait: u16, goal: u32, early: bool, end: u32) -> bool
+    ensures { λ r. ⌜ r ≡ nearerThan (now (book .entry)) stage wait goal early end ⌝ }
 {
     if (number(book, 0) as u32) <= end {
         return false;
     }
-    !is_lost(book, end) & ((wait == 0) | (wait_at(book, end, goal) < wait))
+    let there = stage_at(book, end);
+    let less = (wait == 0) | (wait_at(book, end, goal) < wait);
+    !is_lost(book, end) & ((there < stage) | (!early & ((there == stage) & less)))
 }
 
-// The moves of the book's mask with an arrow in a state, all of whose arrows end where the rule allows, as a mask.
-fn moves_into(plant: &[u8], book: &[u8], state: u32, goal: u32) -> u32
+// The moves of the book's mask with an arrow in a state, all of whose arrows end in earlier stages, or where the rule of
+// the entry allows, as a mask.
+fn moves_into(plant: &[u8], book: &[u8], state: u32, goal: u32, early: bool) -> u32
     ensures { λ r. ⌜ r ≡ movesInto (plantOf (now (plant .entry))) (bookMask (now (book .entry)))
-        (nearerIn (now (book .entry)) state goal) state ⌝ }
+        (leadsIn (now (book .entry)) early state goal) state ⌝ }
 {
+    let stage = stage_at(book, state);
     let in_service = mask(book);
     let moves = number(plant, 1);
     let wait = wait_at(book, state, goal);
@@ -46,7 +53,7 @@ fn moves_into(plant: &[u8], book: &[u8], state: u32, goal: u32) -> u32
         }
         let one: u32 = 1 << (arrow.action as u32);
         seen = seen | one;
-        if nearer(book, wait, goal, arrow.to as u32) {
+        if nearer(book, stage, wait, goal, early, arrow.to as u32) {
             continue;
         }
         bad = bad | one;
@@ -55,12 +62,19 @@ fn moves_into(plant: &[u8], book: &[u8], state: u32, goal: u32) -> u32
 }
 
 // All moves that meet the rule of an entry, as a mask: those of the book's mask with an arrow in the state, all of
-// whose arrows end in states that the book keeps, above wait 0 in those with a smaller wait. 0 for a lost state.
+// whose arrows end in states that the book keeps, of earlier stages if there is such a move; otherwise of no later one,
+// above wait 0 of an earlier stage or with a smaller wait. 0 for a lost state.
 pub fn good(plant: &[u8], book: &[u8], state: u32, goal: u32) -> u32
     ensures { λ r. ⌜ r ≡ goodMoves (plantOf (now (plant .entry))) (now (book .entry)) state goal ⌝ }
 {
     if is_lost(book, state) {
         return 0;
     }
-    moves_into(plant, book, state, goal)
+    if staged(book) {
+        let earlier = moves_into(plant, book, state, goal, true);
+        if earlier != 0 {
+            return earlier;
+        }
+    }
+    moves_into(plant, book, state, goal, false)
 }

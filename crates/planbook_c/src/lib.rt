@@ -182,11 +182,11 @@ pub extern "C" fn planbook_row(book: &[u8], state: u32) -> Part
             length: 0,
         };
     }
-    let start = rows::entry_place(book, state, 0);
-    let goals = format::word::number(book, 2);
+    let start = rows::row_place(book, state);
+    let length = rows::row_long(book);
     Part {
         number: 0,
         start: start as u32,
-        length: 4 * (goals as u32),
+        length: length as u32,
     }
 }

@@ -21,7 +21,7 @@ use Rattle.promises.proofs.Listed.{list-read, lists}
 module _ {s b : List ℕ} {gone : ℕ} {d d′ : List ℕ} {c : Cost} (says : PreviewSays s b gone d d′ c)
     (is-accepted : c .number ≡ 0) where
   -- the withdrawal is accepted with a book buffer that is just long enough
-  fine : withdrawFault s b gone (bookLong (plantOf s .states) (plantOf s .goals)) (length d) ≡ 0
+  fine : withdrawFault s b gone (bookLong (plantOf s .settles) (plantOf s .states) (plantOf s .goals)) (length d) ≡ 0
   fine = sym (preview-as s b gone _ (length d) (omega arith)) ∙ sym (says .number) ∙ is-accepted
 
   drops-told : c .drops ≡ length (droppedStates b (withdrawnBook (plantOf s) b gone))

@@ -4,6 +4,7 @@ use mathlib.Core.Path.{_≡_, sym, _∙_}
 use mathlib.Core.Logic.{inl, inr}
 use mathlib.Core.Bool.{true, false}
 use mathlib.Core.List.{List}
+use native.Mathlib.Omega.{arith}
 use Prim.Native.Nat.{ℕ, zero, suc, _<_}
 use lib.ListN.{length, take}
 use borrow.Author.Tests.{eq-eqb}
@@ -71,7 +72,9 @@ module _ (s : List ℕ) {b : List ℕ} {mask : ℕ} {within : ℕ → Type 0} (p
     moves-accepted =
         let same =
         and-true (eq-eqb _ _ (right .is-book .states))
-        (and-true (eq-eqb _ _ (right .is-book .moves)) (eq-eqb _ _ (right .is-book .goals))) in
+        (and-true (eq-eqb _ _ (right .is-book .moves))
+        (and-true (eq-eqb _ _ (right .is-book .goals))
+        (eq-eqb _ _ (right .is-book .total ∙ right .is-book .size)))) in
         first-iff (lentFault s b) _ .1
         (lent-fine s b plant (right .accepted) same, first-iff (bookFault b) _ .0 consult-accepted .1)
 
@@ -105,7 +108,7 @@ module _ (s : List ℕ) {b : List ℕ} {mask : ℕ} {within : ℕ → Type 0} (p
           let a = arrived (states n) (goals n) (at .state) (at .goal) in
           let i = arrive b (states n) (goals n) in
           rw (right .is-book .mask-is)
-          (right .set (states n) i (advice n .action) (at .state) a .0 listed-at .1 .is-available)
+          (right .safe (states n) i (advice n .action) (at .state) a listed-at .is-available)
 
       -- the move taken is good
       good-at : bit (moves n) (goodMoves (plantOf s) b (states n) (arrive b (states n) (goals n))) ≡ true
@@ -125,13 +128,13 @@ module _ (s : List ℕ) {b : List ℕ} {mask : ℕ} {within : ℕ → Type 0} (p
       next-at =
           let p = plantOf s in
           let a = arrived (states n) (goals n) (at .state) (at .goal) in
-          let meets = right .set (states n) (arrive b (states n) (goals n)) (moves n) (at .state) a .0 good-at .1 in
+          let meets = right .safe (states n) (arrive b (states n) (goals n)) (moves n) (at .state) a good-at in
           let state =
           arrow-range (p .arrows) (p .states) (p .moves) 0 (states n) (moves n) (states (suc n))
           (plant-ok s plant .arrows-ok) (walk .leads n) .1 in
           record {
             state = state;
-            kept = right .is-book .kept (states (suc n)) state .1 (meets .ends-well (states (suc n)) (walk .leads n) .0);
+            kept = right .is-book .kept (states (suc n)) state .1 (meets .ends-well (states (suc n)) (walk .leads n));
             goal = rw seeks-at a;
           }
 
@@ -179,6 +182,15 @@ module _ (s : List ℕ) {b : List ℕ} {mask : ℕ} {within : ℕ → Type 0} (p
                 )
                 (serves .in-time n);
             again = serves .again;
+            one-stage = λ e n m l.
+                omega (
+                  arith,
+                  l,
+                  right .is-book .one-stage e (states (suc m)),
+                  right .is-book .one-stage e (states n),
+                );
+            no-later = serves .no-later;
+            few = serves .few;
           }
 
 -- an accepted consult, and one for the goal arrived at

@@ -22,7 +22,7 @@ pub record Previews : Type 0 where
   -- long enough
   pub number : {s b o o′ d d′ e e′ : List ℕ} {gone : ℕ} {r : Answer} {c : Cost} →
       WithdrawSays s b gone o o′ d d′ r → PreviewSays s b gone e e′ c → length e ≡ length d →
-      bookLong (plantOf s .states) (plantOf s .goals) ≤ length o → c .number ≡ r .number
+      bookLong (plantOf s .settles) (plantOf s .states) (plantOf s .goals) ≤ length o → c .number ≡ r .number
   -- accepted, they agree
   pub agree : {s b o o′ d d′ e e′ : List ℕ} {gone : ℕ} {r : Answer} {c : Cost} →
       WithdrawSays s b gone o o′ d d′ r → PreviewSays s b gone e e′ c → r .number ≡ 0 → c .number ≡ 0 →

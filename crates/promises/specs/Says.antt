@@ -12,7 +12,7 @@ use Rattle.promises.specs.declared.Cost.{Cost}
 use Rattle.promises.specs.declared.Mask.{Mask}
 use Rattle.statements.specs.Sets.{pick, over, isIn}
 use Rattle.statements.specs.Plants.{words, plantOf}
-use Rattle.statements.specs.Books.{bytesOf, bookGoals, bookCount, waitAt, moveAt, isLost, arrive, goodMoves}
+use Rattle.statements.specs.Books.{bytesOf, bookCount, rowPlace, waitAt, moveAt, isLost, arrive, goodMoves}
 use Rattle.statements.specs.Books.{madeBook, withdrawnBook, withdrawnList, returnedBook, droppedStates, gainedStates}
 use Rattle.statements.specs.Calls.{consultFault, movesFault, makeFault, withdrawFault, withdrawListFault, returnFault}
 use Rattle.statements.specs.Calls.{previewFault}
@@ -44,7 +44,7 @@ pub record MovesSays (s b : List ℕ) (x i : ℕ) (r : Mask) : Type 0 where
 
 -- where in a book b the row of state x starts; 0 when refused
 unfoldable pub rowStart : List ℕ → ℕ → ℕ
-rowStart b x = pick (accepted b x 0) (16 + 4 * (x * bookGoals b)) 0
+rowStart b x = pick (accepted b x 0) (rowPlace b x) 0
 
 -- making the book of a plant's bytes s with a mask, in a book buffer that holds o before and o′ after: the number is 1,
 -- 2, 3, 6, 7 or 0; an accepted call writes the book from the buffer's first byte on and returns its length; a refused

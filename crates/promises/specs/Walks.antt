@@ -10,8 +10,9 @@ use Rattle.promises.specs.declared.Advice.{Advice}
 use Rattle.promises.specs.declared.Answer.{Answer}
 use Rattle.promises.specs.declared.Mask.{Mask}
 use Rattle.statements.specs.Sets.{bit, lowest, isIn}
-use Rattle.statements.specs.Plants.{plantOf, inGoal, ends, available}
-use Rattle.statements.specs.Books.{bookMask, isLost, goalAfter, passes}
+use Rattle.statements.specs.Plants.{plantOf, ends, available}
+use Rattle.statements.specs.Books.{bookMask, stageAt, isLost, goalAfter, passes}
+use Rattle.statements.specs.Strategies.{InGoal, unsettled, Leaves}
 use Rattle.promises.specs.Says.{ConsultSays, MovesSays, WithdrawSays, WithdrawListSays, ReturnSays}
 use Rattle.promises.specs.Traces.{Begun, bookAfter}
 
@@ -34,14 +35,20 @@ pub record Walked (s b : List ℕ) (states goals : ℕ → ℕ) (advice : ℕ �
   -- nor is the call for all good moves refused, and the move that consult answers is the lowest of its mask
   pub masked : (n : ℕ) (m : Mask) → MovesSays s b (states n) (goals n) m →
       (m .number ≡ 0) × (advice n .action ≡ lowest (plantOf s .moves) (m .mask))
-  -- the goals passed are met there and then
+  -- the goals passed are met there and then, unless an earlier stage comes next
   pub passed : (n k : ℕ) → k < passes b (states n) (goals n) →
-      inGoal (plantOf s) (goalAfter (plantOf s .goals) (goals n) k) (states n) ≡ true
-  -- the goal answered is met within the wait answered
+      InGoal (plantOf s) (goalAfter (plantOf s .goals) (goals n) k) (states n) ⊎ Leaves b states n n
+  -- the goal answered is met within the wait answered, unless an earlier stage comes next by then
   pub in-time : (n : ℕ) →
-      (m : ℕ) × (n ≤ m) × (m ≤ n + advice n .wait) × (inGoal (plantOf s) (advice n .seek) (states m) ≡ true)
+      (m : ℕ) × (n ≤ m) × (m ≤ n + advice n .wait) ×
+      (InGoal (plantOf s) (advice n .seek) (states m) ⊎ Leaves b states n m)
   -- each goal is met again and again
-  pub again : (i n : ℕ) → i < plantOf s .goals → (m : ℕ) × (n ≤ m) × (inGoal (plantOf s) i (states m) ≡ true)
+  pub again : (i n : ℕ) → i < plantOf s .goals → (m : ℕ) × (n ≤ m) × InGoal (plantOf s) i (states m)
+  -- in a book without stages there is no earlier one
+  pub one-stage : plantOf s .settles ≡ false → (n m : ℕ) → Leaves b states n m → ⊥
+  -- in one with stages these never rise, and fewer states are not settled than the first one's stage says
+  pub no-later : (n : ℕ) → stageAt b (states (suc n)) ≤ stageAt b (states n)
+  pub few : plantOf s .settles ≡ true → (n : ℕ) → unsettled (plantOf s) states n < stageAt b (states 0)
 
 -- from any state that the book keeps and any first goal
 abbrev pub Walking : List ℕ → List ℕ → Type 0

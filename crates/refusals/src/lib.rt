@@ -34,12 +34,14 @@ pub fn make(plant: &[u8], mask: u32, room: usize) -> u8
     0
 }
 
-// A book is for as many states, moves and goals as a plant has.
+// A book is for as many states, moves and goals as a plant has, and of its sort: as long as its books are.
 fn alike(plant: &[u8], book: &[u8]) -> bool
     ensures { λ r. ⌜ r ≡ alike (plantOf (now (plant .entry))) (now (book .entry)) ⌝ }
 {
     (number(book, 0) == number(plant, 0))
-        & ((number(book, 1) == number(plant, 1)) & (number(book, 2) == number(plant, 2)))
+        & ((number(book, 1) == number(plant, 1))
+            & ((number(book, 2) == number(plant, 2))
+                & ((number(book, 7) as usize) == book_long(plant))))
 }
 
 // What a call that is lent a plant and a book returns for these: 1 to 5, or 0 when they are accepted.

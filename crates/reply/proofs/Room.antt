@@ -46,7 +46,7 @@ fault-most : (s : List ℕ) → plantFault s ≤ 3
 unfolding plantFault
 fault-most s =
     let p = plantOf s in
-    let labels = not (labelsOk (p .goals) (p .labels)) in
+    let labels = not (labelsOk (p .settles) (p .goals) (p .labels)) in
     let arrows = not (arrowsOk (p .states) (p .moves) 0 (p .arrows)) in
     first-most (when (not (headOk s)) 1) (firstOf (when labels 2) (when arrows 3)) 3
     (when-most (not (headOk s)) 1 3 (omega arith))

@@ -64,7 +64,7 @@ unfolding over
 over-all xs o e = rw (← e, drop-length o) (append-nil xs)
 
 -- the book of a making is as long as any book of the plant
-made-length : (p : Plant) (mask : ℕ) → length (madeBook p mask) ≡ bookLong (p .states) (p .goals)
+made-length : (p : Plant) (mask : ℕ) → length (madeBook p mask) ≡ bookLong (p .settles) (p .states) (p .goals)
 unfolding madeBook
 made-length p mask = within-length p mask (allowed p)
 
@@ -102,7 +102,7 @@ module _ {s b : List ℕ} (ready : Ready s b) (m : List ℕ) (good : masksOk m �
         rw left-is (less-ok (p .moves) (maskAt m 0) (unionOf (otherMasks m)) first-ok) in
         says .number
         ∙ make-told s (first - bitAnd first gone) (length b) (ready .plant)
-        ∙ rw (left-ok, le-leb (bookLong (p .states) (p .goals)) (length b) (omega (arith, ready .long)))
+        ∙ rw (left-ok, le-leb (bookLong (p .settles) (p .states) (p .goals)) (length b) (omega (arith, ready .long)))
 
     -- and leaves the book of the withdrawals in turn
     pub turned-made : inTurn (plantOf s) m ≡ cameTo (r .number) b′

@@ -19,7 +19,7 @@ pub record Parted (input : List ℕ) (end : ℕ) : Type 0 where
 -- the plant s is accepted, and the book buffer has just the length of its books
 pub record Ready (s b : List ℕ) : Type 0 where
   pub plant : plantFault s ≡ 0
-  pub long : length b ≡ bookLong (plantOf s .states) (plantOf s .goals)
+  pub long : length b ≡ bookLong (plantOf s .settles) (plantOf s .states) (plantOf s .goals)
 
 -- what the masks come to, by the number returned and the book left
 unfoldable pub cameTo : ℕ → List ℕ → Outcome

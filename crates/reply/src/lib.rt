@@ -53,10 +53,10 @@ fn reply_in(plant: &[u8], masks: &[u8], book: &mut [u8], out: &mut [u8]) -> u32
 }
 
 // Room for the longest book.
-fn book_buffer() -> [u8; 32784]
-    ensures { λ r. ⌜ 32784 ≡ length r ⌝ }
+fn book_buffer() -> [u8; 34832]
+    ensures { λ r. ⌜ 34832 ≡ length r ⌝ }
 {
-    [0; 32784]
+    [0; 34832]
 }
 
 // Writes what good masks on an accepted plant come to.

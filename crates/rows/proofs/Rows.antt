@@ -1,93 +1,191 @@
 -- Rows of a book, entry by entry: a state is lost or held when its entries are, each at its place. Assumes nothing.
-use mathlib.Core.Path.{_≡_, refl, sym, ap, _∙_, subst}
+use mathlib.Core.Path.{_≡_, refl, sym, ap, ap₂, _∙_, subst}
 use mathlib.Core.Bool.{Bool, true, false, _&&_, _||_, not}
 use mathlib.Core.List.{List}
-use Prim.Native.Nat.{ℕ, _+_, _-_, _*_, _^_, _≤_, _<_}
+use Prim.Native.Nat.{ℕ, zero, suc, _+_, _-_, _*_, _^_, _≤_, _<_}
 use native.Mathlib.Nat.{suc-mul, mul-le-mul-right}
 use native.Mathlib.Omega.{arith}
-use lib.Dec.{eqb}
+use lib.Dec.{eqb, leb}
 use lib.ListN.{length, drop}
-use Rattle.statements.specs.Sets.{numbers, every, filter}
+use Rattle.statements.specs.Sets.{pick, numbers, every, filter}
 use Rattle.statements.specs.Plants.{word}
-use Rattle.statements.specs.Books.{bookStates, bookMoves, bookGoals, bookCount, bookMask, bookKept}
-use Rattle.statements.specs.Books.{waitAt, moveAt, isLost, isHeld, rowsOk}
-use Rattle.rows.specs.Checks.{lostAt, heldAt}
-use Rattle.format.proofs.Words.{word-further, product-below}
+use Rattle.statements.specs.Books.{lostMark, bookStates, bookMoves, bookGoals, bookCount, bookMask, bookKept}
+use Rattle.statements.specs.Books.{staged, rowPlace, rowLong, entryPlace, stageAt, stageLost, stageHeld, waitAt, moveAt}
+use Rattle.statements.specs.Books.{isLost, isHeld, rowsOk}
+use Rattle.sets.proofs.Tests.{and-none}
+use Rattle.rows.specs.Checks.{lostAt, heldAt, entryIn, entriesLost, lostIn, entriesHeld, heldIn}
+use Rattle.format.proofs.Words.{word-further}
 use Rattle.rows.proofs.Loops.{every-start, every-pass, every-fail, every-end}
 use Rattle.rows.proofs.Loops.{countFrom, count-start, count-more, count-same, count-end}
 
--- the place of the entry of a state and a goal in a book for n goals
-abbrev pub entryPlace : ℕ → ℕ → ℕ → ℕ
-entryPlace n x i = 16 + 4 * (x * n + i)
+and-yes : (t : Bool) → t ≡ t && true
+and-yes true = refl
+and-yes false = refl
 
 -- a state's row ends before the next state's
 pub row-within : {s : ℕ} (x n : ℕ) → x < s → x * n + n ≤ s * n
 row-within {s} x n h = subst (λ (k : ℕ). k ≤ s * n) (suc-mul x n) (mul-le-mul-right n h)
 
 -- the wait is the number at the entry's place
-pub wait-place : (b : List ℕ) (x i : ℕ) → waitAt b x i ≡ word 0 (drop (entryPlace (bookGoals b) x i) b)
+pub wait-place : (b : List ℕ) (x i : ℕ) → waitAt b x i ≡ word 0 (drop (entryPlace b x i) b)
 unfolding waitAt
 wait-place b x i = refl
 
 -- the move is the number two bytes further
-pub move-place : (b : List ℕ) (x i : ℕ) → moveAt b x i ≡ word 0 (drop (entryPlace (bookGoals b) x i + 2) b)
+pub move-place : (b : List ℕ) (x i : ℕ) → moveAt b x i ≡ word 0 (drop (entryPlace b x i + 2) b)
 unfolding moveAt
-move-place b x i = word-further b (entryPlace (bookGoals b) x i) 1
+move-place b x i = word-further b (entryPlace b x i) 1
 
--- a row is lost when its entries are, each at its place
-pub lost-row : (b : List ℕ) (x n : ℕ) → n ≡ bookGoals b → isLost b x ≡ every n 0 (λ i. lostAt b (entryPlace n x i))
-unfolding isLost lostAt waitAt moveAt
-lost-row b x n e = rw e
+-- places, by whether there are stages
+module _ (b : List ℕ) (x : ℕ) where
+  pub row-staged : (t : Bool) (n : ℕ) → t ≡ staged b → t ≡ true → n ≡ word 2 b → 16 + (2 * x + 4 * (x * n)) ≡ rowPlace b x
+  unfolding rowPlace bookGoals
+  row-staged t n e known hn = let q = sym e ∙ known in rw (q, hn) refl
 
--- and held when its entries are
-pub held-row : (b : List ℕ) (x n moves mask : ℕ)
+  pub row-plain : (t : Bool) (n : ℕ) → t ≡ staged b → t ≡ false → n ≡ word 2 b → 16 + 4 * (x * n) ≡ rowPlace b x
+  unfolding rowPlace bookGoals
+  row-plain t n e known hn = let q = sym e ∙ known in rw (q, hn) refl
+
+  pub long-staged : (t : Bool) (n : ℕ) → t ≡ staged b → t ≡ true → n ≡ word 2 b → 2 + 4 * n ≡ rowLong b
+  unfolding rowLong bookGoals
+  long-staged t n e known hn = let q = sym e ∙ known in rw (q, hn) refl
+
+  pub long-plain : (t : Bool) (n : ℕ) → t ≡ staged b → t ≡ false → n ≡ word 2 b → 4 * n ≡ rowLong b
+  unfolding rowLong bookGoals
+  long-plain t n e known hn = let q = sym e ∙ known in rw (q, hn) refl
+
+  pub entry-staged : (i : ℕ) (t : Bool) (n : ℕ) → t ≡ true → n ≡ word 2 b
+      → 16 + (2 * (x + 1) + 4 * (x * n + i)) ≡ entryIn t b x i
+  unfolding entryIn bookGoals
+  entry-staged i t n known hn = rw (known, hn) (omega arith)
+
+  pub entry-plain : (i : ℕ) (t : Bool) (n : ℕ) → t ≡ false → n ≡ word 2 b → 16 + 4 * (x * n + i) ≡ entryIn t b x i
+  unfolding entryIn bookGoals
+  entry-plain i t n known hn = rw (known, hn) refl
+
+  pub entry-known : (i : ℕ) (t : Bool) → t ≡ staged b → entryIn t b x i ≡ entryPlace b x i
+  unfolding entryIn entryPlace
+  entry-known i t e = rw e refl
+
+  -- stages, by the same
+  pub stage-read : (t : Bool) (r k : ℕ) → t ≡ staged b → t ≡ true → k ≡ rowPlace b x → r ≡ word 0 (drop k b) → r ≡ stageAt b x
+  unfolding stageAt
+  stage-read t r k e known hk hr =
+      let q = sym e ∙ known in
+      rw q (hr ∙ ap (λ (m : ℕ). word 0 (drop m b)) hk)
+
+  pub stage-none : (t : Bool) → t ≡ staged b → t ≡ false → 1 ≡ stageAt b x
+  unfolding stageAt
+  stage-none t e known = let q = sym e ∙ known in rw q refl
+
+  -- a row is lost when its entries and its stage are, and held likewise
+  pub lost-not : (t : Bool) → entriesLost t b x ≡ false → false ≡ lostIn t b x
+  unfolding lostIn
+  lost-not t h = sym (and-none (pick t (eqb (stageAt b x) lostMark) true) (entriesLost t b x) h)
+
+  pub lost-plain : (t : Bool) → t ≡ false → entriesLost t b x ≡ true → true ≡ lostIn t b x
+  unfolding lostIn
+  lost-plain t known h = rw (h, known) refl
+
+  pub lost-wholly : (t : Bool) (r : ℕ) → t ≡ true → entriesLost t b x ≡ true → r ≡ stageAt b x
+      → eqb r 65535 ≡ lostIn t b x
+  unfolding lostIn
+  lost-wholly t r known h hr = rw (h, known, hr) (and-yes (eqb (stageAt b x) 65535))
+
+  pub lost-known : (t r : Bool) → t ≡ staged b → r ≡ lostIn t b x → r ≡ isLost b x
+  unfolding lostIn entriesLost entryIn lostAt isLost stageLost waitAt moveAt entryPlace
+  lost-known t r e h = h ∙ rw e refl
+
+  pub held-not : (t : Bool) → entriesHeld t b x ≡ false → false ≡ heldIn t b x
+  unfolding heldIn
+  held-not t h = sym (and-none (pick t (leb 1 (stageAt b x) && leb (stageAt b x) (bookStates b)) true) (entriesHeld t b x) h)
+
+  pub held-plain : (t : Bool) → t ≡ false → entriesHeld t b x ≡ true → true ≡ heldIn t b x
+  unfolding heldIn
+  held-plain t known h = rw (h, known) refl
+
+  pub held-wholly : (t : Bool) (r s : ℕ) → t ≡ true → entriesHeld t b x ≡ true → r ≡ stageAt b x → s ≡ bookStates b
+      → (leb 1 r && leb r s) ≡ heldIn t b x
+  unfolding heldIn
+  held-wholly t r s known h hr hs = rw (h, known, hr, hs) (and-yes (leb 1 (stageAt b x) && leb (stageAt b x) (bookStates b)))
+
+  pub held-known : (t r : Bool) → t ≡ staged b → r ≡ heldIn t b x → r ≡ isHeld b x
+  unfolding heldIn entriesHeld entryIn heldAt isHeld stageHeld waitAt moveAt entryPlace
+  held-known t r e h = h ∙ rw e refl
+
+-- the entries of a row stand one after the other
+entry-next : (t : Bool) (b : List ℕ) (x i : ℕ) → entryIn t b x i ≡ entryIn t b x 0 + 4 * i
+unfolding entryIn
+entry-next true b x i = omega arith
+entry-next false b x i = omega arith
+
+every-same : (f g : ℕ → Bool) → ((k : ℕ) → f k ≡ g k) → (n x : ℕ) → every n x f ≡ every n x g
+unfolding every
+every-same f g h zero x = refl
+every-same f g h (suc n) x = ap₂ (λ (a c : Bool). a && c) (h x) (every-same f g h n (suc x))
+
+-- a row's entries are lost when each is at its place
+pub lost-row : (t : Bool) (b : List ℕ) (x n : ℕ) → n ≡ bookGoals b
+    → entriesLost t b x ≡ every n 0 (λ i. lostAt b (entryIn t b x 0 + 4 * i))
+unfolding entriesLost
+lost-row t b x n e =
+    rw e
+    (every-same (λ i. lostAt b (entryIn t b x i)) (λ i. lostAt b (entryIn t b x 0 + 4 * i))
+    (λ i. ap (lostAt b) (entry-next t b x i)) (bookGoals b) 0)
+
+-- and held likewise
+pub held-row : (t : Bool) (b : List ℕ) (x n moves mask : ℕ)
     → n ≡ bookGoals b → moves ≡ bookMoves b → mask ≡ bookMask b
-    → isHeld b x ≡ every n 0 (λ i. heldAt b moves mask (entryPlace n x i))
-unfolding isHeld heldAt waitAt moveAt
-held-row b x n moves mask e u m = rw (e, u, m)
+    → entriesHeld t b x ≡ every n 0 (λ i. heldAt b moves mask (entryIn t b x 0 + 4 * i))
+unfolding entriesHeld
+held-row t b x n moves mask e u m =
+    rw (e, u, m)
+    (every-same (λ i. heldAt b (bookMoves b) (bookMask b) (entryIn t b x i))
+    (λ i. heldAt b (bookMoves b) (bookMask b) (entryIn t b x 0 + 4 * i))
+    (λ i. ap (heldAt b (bookMoves b) (bookMask b)) (entry-next t b x i)) (bookGoals b) 0)
 
 -- a loop over a row's entries, with a test of the entry at a place: goal i is next, and the entries from there on
 -- stand for the whole row
-pub record RowLeft (test : ℕ → Bool) (n x : ℕ) (whole : Bool) (at i : ℕ) : Type 0 where
+pub record RowLeft (test : ℕ → Bool) (n start : ℕ) (whole : Bool) (at i : ℕ) : Type 0 where
   pub within : i ≤ n
   pub few : n < 65536
-  pub small : x * n < 2 ^ 48
-  pub place : at ≡ entryPlace n x i
-  pub left : whole ≡ every (n - i) i (λ k. test (entryPlace n x k))
+  pub small : start < 2 ^ 58
+  pub place : at ≡ start + 4 * i
+  pub left : whole ≡ every (n - i) i (λ k. test (start + 4 * k))
 
 -- before the first entry
-pub row-start : {n x at : ℕ} (test : ℕ → Bool) {whole : Bool}
-    → n < 65536 → x < 2 ^ 32 → at ≡ entryPlace n x 0
-    → whole ≡ every n 0 (λ k. test (entryPlace n x k))
-    → RowLeft test n x whole at 0
-row-start {n} {x} test few small place all =
+pub row-start : {n start at : ℕ} (test : ℕ → Bool) {whole : Bool}
+    → n < 65536 → start < 2 ^ 58 → at ≡ start
+    → whole ≡ every n 0 (λ k. test (start + 4 * k))
+    → RowLeft test n start whole at 0
+row-start {n} {start} test few small place all =
     record {
       within = omega arith;
       few = few;
-      small = product-below 32 16 small few;
-      place = place;
-      left = all ∙ every-start (λ k. test (entryPlace n x k)) n;
+      small = small;
+      place = omega (arith, place);
+      left = all ∙ every-start (λ k. test (start + 4 * k)) n;
     }
 
-module _ {test : ℕ → Bool} {n x : ℕ} {whole : Bool} {at i : ℕ} (r : RowLeft test n x whole at i) where
+module _ {test : ℕ → Bool} {n start : ℕ} {whole : Bool} {at i : ℕ} (r : RowLeft test n start whole at i) where
   -- the entry at the place passes
-  pub row-pass : i < n → test at ≡ true → RowLeft test n x whole (at + 4) (i + 1)
+  pub row-pass : i < n → test at ≡ true → RowLeft test n start whole (at + 4) (i + 1)
   row-pass h e =
       record {
         within = omega arith;
         few = r .few;
         small = r .small;
         place = omega (arith, r .place);
-        left = r .left ∙ every-pass (λ k. test (entryPlace n x k)) n i h (ap test (sym (r .place)) ∙ e);
+        left = r .left ∙ every-pass (λ k. test (start + 4 * k)) n i h (ap test (sym (r .place)) ∙ e);
       }
 
   -- it fails
   pub row-fail : i < n → test at ≡ false → whole ≡ false
-  row-fail h e = r .left ∙ every-fail (λ k. test (entryPlace n x k)) n i h (ap test (sym (r .place)) ∙ e)
+  row-fail h e = r .left ∙ every-fail (λ k. test (start + 4 * k)) n i h (ap test (sym (r .place)) ∙ e)
 
   -- no entry is left
   pub row-end : n ≤ i → whole ≡ true
-  row-end h = r .left ∙ every-end (λ k. test (entryPlace n x k)) n i h
+  row-end h = r .left ∙ every-end (λ k. test (start + 4 * k)) n i h
 
 -- a row that is wholly lost or held
 unfoldable pub rowFine : List ℕ → ℕ → Bool

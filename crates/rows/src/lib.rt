@@ -5,10 +5,10 @@ use format::word::mask_ok;
 use format::word::number;
 use format::word::word_at;
 ghost use mathlib.Core.Path.{_≡_};
-ghost use Prim.Native.Nat.{_+_, _*_, _^_, _<_};
-ghost use Rattle.rows.specs.Checks.{lostAt, heldAt};
-ghost use Rattle.statements.specs.Books.{bookGoals, bookMask, waitAt, moveAt, isLost, isHeld};
-ghost use Rattle.statements.specs.Books.{bookHeadOk, rowsOk, bookFault};
+ghost use Prim.Native.Nat.{_^_, _<_};
+ghost use Rattle.rows.specs.Checks.{lostAt, heldAt, entryIn, entriesLost, lostIn, entriesHeld, heldIn};
+ghost use Rattle.statements.specs.Books.{bookMask, staged, rowPlace, rowLong, entryPlace, waitAt, moveAt, stageAt};
+ghost use Rattle.statements.specs.Books.{isLost, bookHeadOk, rowsOk, bookFault};
 
 // The moves in service: bit u is move u.
 pub fn mask(book: &[u8]) -> u32
@@ -17,11 +17,67 @@ pub fn mask(book: &[u8]) -> u32
     (number(book, 4) as u32) + 65536 * (number(book, 5) as u32)
 }
 
+// The book has stages: its length says so.
+pub fn staged(book: &[u8]) -> bool
+    ensures { λ r. ⌜ r ≡ staged (now (book .entry)) ⌝ }
+{
+    let s = number(book, 0) as usize;
+    let n = number(book, 2) as usize;
+    (number(book, 7) as usize) == 16 + (2 * s + 4 * (s * n))
+}
+
+// The place of the row of a state.
+pub fn row_place(book: &[u8], state: u32) -> usize
+    ensures { λ r. ⌜ r ≡ rowPlace (now (book .entry)) state ⌝ }
+{
+    let x = state as usize;
+    let entries = 4 * (x * (number(book, 2) as usize));
+    if staged(book) {
+        return 16 + (2 * x + entries);
+    }
+    16 + entries
+}
+
+// The length of a row.
+pub fn row_long(book: &[u8]) -> usize
+    ensures { λ r. ⌜ r ≡ rowLong (now (book .entry)) ⌝ }
+{
+    let entries = 4 * (number(book, 2) as usize);
+    if staged(book) {
+        return 2 + entries;
+    }
+    entries
+}
+
+// The place of the entry of a state and a goal, in a book with stages or without.
+fn entry_in(book: &[u8], stages: bool, state: u32, goal: u32) -> usize
+    ensures place { λ r. ⌜ r ≡ entryIn stages (now (book .entry)) state goal ⌝ }
+    ensures small { λ r. ⌜ r < 2 ^ 58 ⌝ }
+{
+    let x = state as usize;
+    let entries = 4 * (x * (number(book, 2) as usize) + (goal as usize));
+    if stages {
+        return 16 + (2 * (x + 1) + entries);
+    }
+    16 + entries
+}
+
 // The place of the entry of a state and a goal.
 pub fn entry_place(book: &[u8], state: u32, goal: u32) -> usize
-    ensures { λ r. ⌜ r ≡ 16 + 4 * (state * bookGoals (now (book .entry)) + goal) ⌝ }
+    ensures place { λ r. ⌜ r ≡ entryPlace (now (book .entry)) state goal ⌝ }
+    ensures small { λ r. ⌜ r < 2 ^ 58 ⌝ }
 {
-    16 + 4 * ((state as usize) * (number(book, 2) as usize) + (goal as usize))
+    entry_in(book, staged(book), state, goal)
+}
+
+// The stage of a state; 1 in a book without stages.
+pub fn stage_at(book: &[u8], state: u32) -> u16
+    ensures { λ r. ⌜ r ≡ stageAt (now (book .entry)) state ⌝ }
+{
+    if staged(book) {
+        return word_at(book, row_place(book, state));
+    }
+    1
 }
 
 // The wait of a state for a goal.
@@ -55,12 +111,12 @@ fn entry_held(book: &[u8], at: usize, moves: u16, mask: u32) -> bool
     (word_at(book, at) <= 1023) & ((action < moves) & bit_at(mask, action as u32))
 }
 
-// A state is lost: both places of every entry of its row have the mark.
-pub fn is_lost(book: &[u8], state: u32) -> bool
-    ensures { λ r. ⌜ r ≡ isLost (now (book .entry)) state ⌝ }
+// Both places of every entry of a state's row have the mark, in a book with stages or without.
+fn entries_lost(book: &[u8], stages: bool, state: u32) -> bool
+    ensures { λ r. ⌜ r ≡ entriesLost stages (now (book .entry)) state ⌝ }
 {
     let goals = number(book, 2);
-    let mut at = entry_place(book, state, 0);
+    let mut at = entry_in(book, stages, state, 0);
     let mut goal: u16 = 0;
     while goal < goals {
         if !entry_lost(book, at) {
@@ -72,14 +128,35 @@ pub fn is_lost(book: &[u8], state: u32) -> bool
     true
 }
 
-// A state's row has every wait at most 1,023 and every move in the book's mask.
-fn is_held(book: &[u8], state: u32) -> bool
-    ensures { λ r. ⌜ r ≡ isHeld (now (book .entry)) state ⌝ }
+// A state is lost, in a book that is known to have stages or not: both places of every entry of its row and its stage,
+// if there are stages, have the mark. For loops, which need ask only once whether there are.
+pub fn lost_in(book: &[u8], stages: bool, state: u32) -> bool
+    ensures { λ r. ⌜ r ≡ lostIn stages (now (book .entry)) state ⌝ }
+{
+    if !entries_lost(book, stages, state) {
+        return false;
+    }
+    if !stages {
+        return true;
+    }
+    stage_at(book, state) == 65535
+}
+
+// A state is lost.
+pub fn is_lost(book: &[u8], state: u32) -> bool
+    ensures { λ r. ⌜ r ≡ isLost (now (book .entry)) state ⌝ }
+{
+    lost_in(book, staged(book), state)
+}
+
+// A state's row has every wait at most 1,023 and every move in the book's mask, in a book with stages or without.
+fn entries_held(book: &[u8], stages: bool, state: u32) -> bool
+    ensures { λ r. ⌜ r ≡ entriesHeld stages (now (book .entry)) state ⌝ }
 {
     let goals = number(book, 2);
     let moves = number(book, 1);
     let mask = mask(book);
-    let mut at = entry_place(book, state, 0);
+    let mut at = entry_in(book, stages, state, 0);
     let mut goal: u16 = 0;
     while goal < goals {
         if !entry_held(book, at, moves, mask) {
@@ -91,16 +168,31 @@ fn is_held(book: &[u8], state: u32) -> bool
     true
 }
 
+// A state's row has such entries and, if there are stages, one from 1 to S.
+fn held_in(book: &[u8], stages: bool, state: u32) -> bool
+    ensures { λ r. ⌜ r ≡ heldIn stages (now (book .entry)) state ⌝ }
+{
+    if !entries_held(book, stages, state) {
+        return false;
+    }
+    if !stages {
+        return true;
+    }
+    let stage = stage_at(book, state);
+    (1 <= stage) & (stage <= number(book, 0))
+}
+
 // Every row is wholly lost or held, and as many rows are not lost as the header counts.
 fn rows_ok(book: &[u8]) -> bool
     ensures { λ r. ⌜ r ≡ rowsOk (now (book .entry)) ⌝ }
 {
     let states = number(book, 0) as u32;
+    let stages = staged(book);
     let mut kept: u32 = 0;
     let mut state: u32 = 0;
     while state < states {
-        if !is_lost(book, state) {
-            if !is_held(book, state) {
+        if !lost_in(book, stages, state) {
+            if !held_in(book, stages, state) {
                 return false;
             }
             kept += 1;
@@ -110,7 +202,8 @@ fn rows_ok(book: &[u8]) -> bool
     (number(book, 3) as u32) == kept
 }
 
-// The header is as document 01 says, and the slice is as long as the header says.
+// The header is as document 01 says, with the length of a book without stages or with them, and the slice is as long as
+// the header says.
 fn head_ok(book: &[u8]) -> bool
     ensures { λ r. ⌜ r ≡ bookHeadOk (now (book .entry)) ⌝ }
 {
@@ -129,7 +222,7 @@ fn head_ok(book: &[u8]) -> bool
                     & ((1 <= n)
                         & ((n <= 8)
                             & ((rows == 16)
-                                & ((total == 16 + 4 * (s * n))
+                                & (((total == 16 + 4 * (s * n)) | staged(book))
                                     & (mask_ok(u, mask(book)) & (book.len() == total)))))))))
 }
 

@@ -58,19 +58,19 @@ module _ (all start : List ℕ) (f : List ℕ → List ℕ) (begins : Sifted all
   pub iterate-sifted : (n : ℕ) → Sifted all (iterate n f start)
   iterate-sifted n = iterate-keeps (Sifted all) f start begins sifts n
 
-  module _ (grows : (ys : List ℕ) → Sifted all ys → (x : ℕ) → isIn x ys ≡ true → isIn x (f ys) ≡ true) where
+  module _ (grows : (n x : ℕ) → isIn x (iterate n f start) ≡ true → isIn x (f (iterate n f start)) ≡ true) where
     grown-same : (n : ℕ) → length (f (iterate n f start)) ≡ length (iterate n f start) →
         f (iterate n f start) ≡ iterate n f start
     grown-same n l =
         let s = iterate-sifted n in
         sym (sifted-as-long all (iterate n f start) (f (iterate n f start)) s (sifts (iterate n f start) s)
-        (grows (iterate n f start) s) (sym l))
+        (grows n) (sym l))
 
     grown-longer : (n : ℕ) → length (iterate n f start) ≤ length (f (iterate n f start))
     grown-longer n =
         let s = iterate-sifted n in
         sifted-longer all (iterate n f start) (f (iterate n f start)) s (sifts (iterate n f start) s)
-        (grows (iterate n f start) s)
+        (grows n)
 
     -- each step adds a member until one changes nothing
     growing : (n : ℕ) → (f (iterate n f start) ≡ iterate n f start) ⊎ (n + length start ≤ length (iterate n f start))

@@ -1,8 +1,12 @@
--- Laws that the proofs of the solver share.
 pub mod Searching
 pub mod ReachTurns
 pub mod ReachSteps
 pub mod RoundsSets
 pub mod RoundsKept
 pub mod RoundsRows
+pub mod StageTurns
 pub mod RoundsSolved
+pub mod RowLists
+pub mod StageSteps
+pub mod StageRows
+pub mod RoundsPlain

@@ -21,23 +21,23 @@ use Rattle.solve.specs.Given.{below}
 use Rattle.solve.specs.Reaching.{without, Written, Swept, Open}
 
 -- a list with one member more at its end
-last-here : (x : ℕ) (xs : List ℕ) → isIn x (xs ++ (x ∷ [])) ≡ true
+pub last-here : (x : ℕ) (xs : List ℕ) → isIn x (xs ++ (x ∷ [])) ≡ true
 last-here x [] = isIn-here x []
 last-here x (z ∷ zs) = isIn-there x z (zs ++ (x ∷ [])) (last-here x zs)
 
-last-other : (y x : ℕ) (xs : List ℕ) → (y ≡ x → ⊥) → isIn y (xs ++ (x ∷ [])) ≡ isIn y xs
+pub last-other : (y x : ℕ) (xs : List ℕ) → (y ≡ x → ⊥) → isIn y (xs ++ (x ∷ [])) ≡ isIn y xs
 unfolding isIn
 last-other y x [] d = rw (ne-eqb y x d) refl
 last-other y x (z ∷ zs) d = ap (λ (b : Bool). eqb y z || b) (last-other y x zs d)
 
 -- what stands at a place of a list is a member
-isIn-at : (xs : List ℕ) (k : ℕ) → k < length xs → isIn (getD xs k 0) xs ≡ true
+pub isIn-at : (xs : List ℕ) (k : ℕ) → k < length xs → isIn (getD xs k 0) xs ≡ true
 isIn-at [] k h = absurd (omega arith)
 isIn-at (x ∷ xs) zero h = isIn-here x xs
 isIn-at (x ∷ xs) (suc k) h = isIn-there (getD xs k 0) x xs (isIn-at xs k (omega arith))
 
 -- a member of the first states of a list is one of the list
-isIn-take : (k : ℕ) (xs : List ℕ) (x : ℕ) → isIn x (take k xs) ≡ true → isIn x xs ≡ true
+pub isIn-take : (k : ℕ) (xs : List ℕ) (x : ℕ) → isIn x (take k xs) ≡ true → isIn x xs ≡ true
 isIn-take zero xs x h = absurd (isIn-none x h)
 isIn-take (suc k) [] x h = h
 isIn-take (suc k) (y ∷ ys) x h =

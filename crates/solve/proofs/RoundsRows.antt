@@ -1,29 +1,21 @@
--- The rows of kept states: within them the reach to a goal is what waits and listed moves are made of, so that columns
--- of the reach, one for each goal, are the rows of the book. Assumes nothing.
-use mathlib.Core.Path.{_≡_, refl, sym, ap, _∙_, subst}
+-- The rows of a stage: in a sound stage the reach to a goal is what waits and listed moves are made of. Assumes nothing.
+use mathlib.Core.Path.{_≡_, refl, sym, ap, _∙_}
 use mathlib.Core.Logic.{⊎-elim}
-use mathlib.Core.Bool.{Bool, true, false, _||_}
+use mathlib.Core.Bool.{Bool, true, false, _&&_, _||_}
 use mathlib.Core.List.{List, [], _∷_}
-use Prim.Native.Nat.{ℕ, zero, suc, _+_, _*_, _≤_, _<_}
+use Prim.Native.Nat.{ℕ, zero, suc, _<_}
 use native.Mathlib.Omega.{arith}
-use native.Mathlib.Nat.{zero-mul, add-zero, zero-add}
-use native.Mathlib.Numerals.{add-one}
 use lib.Dec.{eqb, ltb}
-use lib.ListN.{length, getD, take, drop, take-append-drop}
-use lib.Seq.{drop-cons, take-add, drop-drop, length-take-le}
-use Rattle.statements.specs.Sets.{pick, joined, isIn, filter, over}
-use Rattle.statements.specs.Plants.{Plant, inGoal}
-use Rattle.statements.specs.Kept.{forced, keptWithin, level, waitOf, nearer, listedMove}
-use Rattle.statements.specs.Books.{lostMark}
+use lib.ListN.{length, getD}
+use Rattle.statements.specs.Sets.{iterate, isIn, filter}
+use Rattle.statements.specs.Plants.{Plant, inGoal, moveInto, can}
+use Rattle.statements.specs.Kept.{grown, target, forced, Stage, level, waitIn, nearer, landing}
 use Rattle.sets.proofs.Tests.{decided, not-both}
-use Rattle.sets.proofs.Members.{Sifted, sifted-filter, sifted-same, isIn-here, isIn-there}
-use Rattle.kept.proofs.Reach.{steps-sifted, forced-all}
-use Rattle.kept.proofs.Kept.{kept-forced}
-use Rattle.kept.proofs.Waits.{AllForced, steps-level, level-kept, wait-level, level-wait, nearer-holds, nearer-in}
-use Rattle.solve.specs.Reached.{within, before, stepOf, reached, reachedBy}
-use Rattle.solve.specs.Rows.{Columns, keptFrom, entryNumbers, rowNumbers, writtenRows}
-use Rattle.solve.specs.Rounds.{Rest}
-use Rattle.arrays.proofs.Columns.{entry-room}
+use Rattle.sets.proofs.Members.{Sifted, filter-same, sifted-filter, sifted-same, isIn-here, isIn-there}
+use Rattle.kept.proofs.Reach.{steps-sifted}
+use Rattle.kept.proofs.Waits.{Sound, steps-level, level-kept, wait-level, level-wait, nearer-holds, nearer-in}
+use Rattle.kept.proofs.Waits.{wait-exit, landing-exit, landing-nearer}
+use Rattle.solve.specs.Reached.{goes, within, before, foundBy, stepOf, reached, reachedBy}
 
 -- a test that holds of every member leaves the list as it is
 filter-whole : (f : ℕ → Bool) (xs : List ℕ) → ((x : ℕ) → isIn x xs ≡ true → f x ≡ true) → filter f xs ≡ xs
@@ -31,136 +23,89 @@ unfolding filter
 filter-whole f [] h = refl
 filter-whole f (x ∷ xs) h = rw (h x (isIn-here x xs), filter-whole f xs (λ y m. h y (isIn-there y x xs m))) refl
 
-module _ (p : Plant) (mask : ℕ) (kept : List ℕ) (some-goal : 0 < p .goals) (fixed : AllForced p mask kept) where
-  module _ (i : ℕ) (i-goal : i < p .goals) where
-    -- the steps of the reach are the levels of the waits
-    within-level : (n : ℕ) → within p mask kept i n ≡ level p mask kept i n
-    unfolding within
-    within-level n = steps-level p mask kept some-goal fixed i i-goal n
+module _ (p : Plant) (mask : ℕ) (leave : List ℕ) (s : Stage) (some-goal : 0 < p .goals) (sound : Sound p mask s)
+    (agree : (x : ℕ) → isIn x (s .through) ≡ true → goes p leave x ≡ s .exits x)
+    (lowest : (x : ℕ) → isIn x (s .through) ≡ true → s .exits x ≡ true → getD leave x 0 ≡ moveInto p mask (s .earlier) x)
+    (i : ℕ) (i-goal : i < p .goals) where
+  abbrev kept : List ℕ
+  kept = s .through
 
-    -- so a state is reached in as many steps as its wait
-    step-wait : (x : ℕ) → stepOf p mask kept i x ≡ waitOf p mask kept i x
-    unfolding stepOf waitOf
-    step-wait x = simp within-level
+  abbrev W : ℕ → ℕ
+  W x = waitIn p mask (s .exits) (s .through) i x
 
-    -- levels, and where moves may end, are filters of the kept states
-    level-sifted : (n : ℕ) → Sifted kept (level p mask kept i n)
-    unfolding level
-    level-sifted n = steps-sifted p mask kept (filter (inGoal p i) kept) (sifted-filter (inGoal p i) kept) n
+  -- the reach starts from the same states
+  target-same : target p mask (goes p leave) kept i ≡ target p mask (s .exits) kept i
+  unfolding target
+  target-same =
+      filter-same (λ x. goes p leave x || (inGoal p i x && can p mask kept x))
+      (λ x. s .exits x || (inGoal p i x && can p mask kept x)) kept
+      (λ x m. ap (λ b. b || (inGoal p i x && can p mask kept x)) (agree x m))
 
-    nearer-sifted : (w : ℕ) → Sifted kept (nearer p mask kept i w)
-    unfolding nearer
-    nearer-sifted w = sifted-filter (λ y. eqb w 0 || ltb (waitOf p mask kept i y) w) kept
+  forced-same : forced p mask (goes p leave) kept i ≡ forced p mask (s .exits) kept i
+  unfolding forced
+  forced-same = ap (iterate (length kept) (grown p mask kept)) target-same
 
-    -- at wait 0 a move may end in every kept state
-    nearer-none : nearer p mask kept i 0 ≡ kept
-    unfolding nearer
-    nearer-none = filter-whole (λ y. eqb 0 0 || ltb (waitOf p mask kept i y) 0) kept (λ y m. refl)
+  -- its steps are the levels of the waits
+  within-level : (n : ℕ) → within p mask leave kept i n ≡ level p mask (s .exits) kept i n
+  unfolding within
+  within-level n = ap (iterate n (grown p mask kept)) target-same ∙ steps-level p mask s some-goal sound i i-goal n
 
-    -- a listed move may end in what was reached before
-    before-nearer : (w : ℕ) → before p mask kept i w ≡ nearer p mask kept i w
-    unfolding before
-    before-nearer zero = sym nearer-none
-    before-nearer (suc n) =
-        within-level n
-        ∙ sifted-same kept (level p mask kept i n) (nearer p mask kept i (suc n)) (level-sifted n)
-        (nearer-sifted (suc n))
-        (λ y m. let k = level-kept p mask kept some-goal fixed i i-goal n y m in
-        nearer-in p mask kept some-goal fixed i i-goal (suc n) y k
-        (λ l. let w = level-wait p mask kept some-goal fixed i i-goal y k n m in omega arith))
-        (λ y m. let r = nearer-holds p mask kept some-goal fixed i i-goal (suc n) y m in
-        wait-level p mask kept some-goal fixed i i-goal y (r .0) n (let l = r .1 (omega arith) in omega arith))
+  -- so a state is reached in as many steps as its wait
+  step-wait : (x : ℕ) → stepOf p mask leave kept i x ≡ W x
+  unfolding stepOf waitIn
+  step-wait x = simp within-level
 
-    -- an entry of the book is what the reach leaves
-    pub entry-reached : (x : ℕ)
-        → entryNumbers p mask kept x i ≡ reached p mask kept i x ∷ (reachedBy p mask kept i x ∷ [])
-    unfolding entryNumbers reached reachedBy listedMove
-    entry-reached x = ⊎-elim
-        (λ m. ap (λ (b : Bool). pick b kept-entry lost-entry) m ∙ rw (fixed x i m i-goal, step-wait x, before-nearer))
-        (λ m. ap (λ (b : Bool). pick b kept-entry lost-entry) m ∙ rw (outside m))
-        (decided (isIn x kept))
-      where
-        kept-entry : List ℕ
-        kept-entry = waitOf p mask kept i x ∷ (listedMove p mask kept i x ∷ [])
+  level-sifted : (n : ℕ) → Sifted kept (level p mask (s .exits) kept i n)
+  unfolding level
+  level-sifted n =
+      steps-sifted p mask kept (filter (λ x. s .exits x || inGoal p i x) kept)
+      (sifted-filter (λ x. s .exits x || inGoal p i x) kept) n
 
-        lost-entry : List ℕ
-        lost-entry = lostMark ∷ (lostMark ∷ [])
+  nearer-sifted : (w : ℕ) → Sifted kept (nearer p mask (s .exits) kept i w)
+  unfolding nearer
+  nearer-sifted w = sifted-filter (λ y. eqb w 0 || ltb (W y) w) kept
 
-        outside : isIn x kept ≡ false → isIn x (forced p mask kept i) ≡ false
-        outside m =
-            ⊎-elim (λ f. absurd (not-both (forced-all p mask kept i x f) m)) (λ f. f)
-            (decided (isIn x (forced p mask kept i)))
+  nearer-none : nearer p mask (s .exits) kept i 0 ≡ kept
+  unfolding nearer
+  nearer-none = filter-whole (λ y. eqb 0 0 || ltb (W y) 0) kept (λ y m. refl)
 
--- a list in pieces of one size, each of them known, is those pieces one after the other
-joined-take : (part : ℕ → List ℕ) (size n x : ℕ) (l : List ℕ)
-    → ((k : ℕ) → k < n → take size (drop (k * size) l) ≡ part (x + k)) → take (n * size) l ≡ joined n x part
-unfolding joined
-joined-take part size zero x l h = rw zero-mul
-joined-take part size (suc n) x l h =
-    let more : suc n * size ≡ size + n * size = omega arith in
-    let here : take size l ≡ part x = rw (zero-mul, add-zero) at (h 0 (omega arith)) in
-    let later = joined-take part size n (suc x) (drop size l)
-    (λ k b.
-    let past : size + k * size ≡ suc k * size = omega arith in
-    let there : x + suc k ≡ suc x + k = omega arith in
-    ap (take size) (drop-drop (k * size) size l ∙ ap (λ (m : ℕ). drop m l) past) ∙ h (suc k) (omega arith)
-    ∙ ap part there) in
-    rw (more, take-add, here, later)
+  within-nearer : (n : ℕ) → within p mask leave kept i n ≡ nearer p mask (s .exits) kept i (suc n)
+  within-nearer n =
+      within-level n
+      ∙ sifted-same kept (level p mask (s .exits) kept i n) (nearer p mask (s .exits) kept i (suc n)) (level-sifted n)
+      (nearer-sifted (suc n))
+      (λ y m. let k = level-kept p mask s some-goal sound i i-goal n y m in
+      nearer-in p mask s some-goal sound i i-goal (suc n) y k
+      (λ l. let w = level-wait p mask s some-goal sound i i-goal y k n m in omega arith))
+      (λ y m. let r = nearer-holds p mask s some-goal sound i i-goal (suc n) y m in
+      wait-level p mask s some-goal sound i i-goal y (r .0) n (let l = r .1 (omega arith) in omega arith))
 
--- two numbers of a list
-two-at : (l : List ℕ) (a : ℕ) → a + 2 ≤ length l → take 2 (drop a l) ≡ getD l a 0 ∷ (getD l (a + 1) 0 ∷ [])
-two-at l a h =
-    let first : a < length l = omega arith in
-    let second : suc a < length l = omega arith in
-    rw (drop-cons l a 0 first, drop-cons l (suc a) 0 second, add-one)
+  -- a listed move may end in what was reached before, where a state cannot leave
+  before-landing : (x : ℕ) → s .exits x ≡ false → (w : ℕ) → W x ≡ w → before p mask leave kept i w ≡ landing p mask s i x
+  unfolding before
+  before-landing x e zero q =
+      sym (landing-nearer p mask s some-goal sound i i-goal x e ∙ ap (nearer p mask (s .exits) kept i) q ∙ nearer-none)
+  before-landing x e (suc n) q =
+      within-nearer n
+      ∙ sym (landing-nearer p mask s some-goal sound i i-goal x e ∙ ap (nearer p mask (s .exits) kept i) q)
 
-module _ (p : Plant) (mask : ℕ) (kept : List ℕ) (some-goal : 0 < p .goals) (fixed : AllForced p mask kept)
-    (old new : List ℕ) (columns : Columns p mask kept (p .goals) new) (rest : Rest (2 * (p .states * p .goals)) old new)
-    (room : 2 * (p .states * p .goals) ≤ length old) where
-  -- a state's row is written at its place
-  row-written : (x : ℕ) → x < p .states
-      → take (p .goals * 2) (drop (x * (p .goals * 2)) new) ≡ joined (p .goals) 0 (entryNumbers p mask kept x)
-  row-written x hx =
-      joined-take (entryNumbers p mask kept x) 2 (p .goals) 0 (drop (x * (p .goals * 2)) new)
-      (λ i hi.
-      let place : x * (p .goals * 2) + i * 2 ≡ 2 * (x * p .goals + i) = omega arith in
-      let fits : 2 * (x * p .goals + i) + 2 ≤ length new =
-      omega (arith, entry-room (p .states) (p .goals) x i hx hi, rest .long) in
-      rw (
-        drop-drop,
-        place,
-        zero-add,
-        two-at new (2 * (x * p .goals + i)) fits,
-        columns .wait-is x i hx hi,
-        columns .move-is x i hx hi,
-      )
-      (sym (entry-reached p mask kept some-goal fixed i hi x)))
+  -- the move of a state is the listed one
+  found-landing : (x : ℕ) → isIn x kept ≡ true → foundBy p mask leave kept i (W x) x ≡ moveInto p mask (landing p mask s i x) x
+  unfolding foundBy
+  found-landing x m =
+      ⊎-elim
+      (λ e. rw (agree x m ∙ e, landing-exit p mask s some-goal sound i i-goal x e) (lowest x m e))
+      (λ e.
+      let stays : goes p leave x ≡ false = agree x m ∙ e in
+      rw stays (ap (λ ys. moveInto p mask ys x) (before-landing x e (W x) refl)))
+      (decided (s .exits x))
 
-  -- and so are all rows
-  rows-taken : take (p .states * (p .goals * 2)) new ≡ rowNumbers p mask kept
-  unfolding rowNumbers
-  rows-taken =
-      joined-take (λ x. joined (p .goals) 0 (entryNumbers p mask kept x)) (p .goals * 2) (p .states) 0 new
-      (λ x hx. rw zero-add (row-written x hx))
-
-  -- the entries are the rows, and what stood behind them before
-  pub rows-written : new ≡ writtenRows p mask kept old
-  unfolding over
-  rows-written =
-      let size : p .states * (p .goals * 2) ≡ 2 * (p .states * p .goals) = omega arith in
-      let taken : take (2 * (p .states * p .goals)) new ≡ rowNumbers p mask kept = rw (← size) rows-taken in
-      let long : length (rowNumbers p mask kept) ≡ 2 * (p .states * p .goals) =
-      sym (ap length taken) ∙ length-take-le (2 * (p .states * p .goals)) new (omega (arith, rest .long)) in
-      sym (take-append-drop (2 * (p .states * p .goals)) new) ∙ rw (taken, rest .stays, long)
-
--- the entries after the rounds from a set with the kept states of a test
-pub rows-done : (p : Plant) (mask : ℕ) (test : ℕ → Bool) (states goals : ℕ) (start old new : List ℕ) → 0 < p .goals
-    → states ≡ p .states → goals ≡ p .goals → keptFrom p mask start ≡ keptWithin p mask test
-    → Columns p mask (keptFrom p mask start) (p .goals) new
-    → Rest (2 * (states * goals)) old new
-    → 2 * (states * goals) ≤ length old → new ≡ writtenRows p mask (keptWithin p mask test) old
-rows-done p mask test states goals start old new some-goal es eg same columns rest room =
-    let place : 2 * (states * goals) ≡ 2 * (p .states * p .goals) = rw (es, eg) in
-    rows-written p mask (keptWithin p mask test) some-goal (kept-forced p mask test) old new
-    (subst (λ (ys : List ℕ). Columns p mask ys (p .goals) new) same columns)
-    (subst (λ (k : ℕ). Rest k old new) place rest) (omega arith)
+  -- the reach leaves the wait and the listed move of every state of the stage
+  pub stage-reached : (x : ℕ) → isIn x kept ≡ true → (reached p mask leave kept i x ≡ W x) ×
+      (reachedBy p mask leave kept i x ≡ moveInto p mask (landing p mask s i x) x)
+  unfolding reached reachedBy
+  stage-reached x m = (
+    rw (forced-same, sound .forces x i m i-goal) (step-wait x),
+    rw (forced-same, sound .forces x i m i-goal)
+        (ap (λ w. foundBy p mask leave kept i w x) (step-wait x) ∙ found-landing x m),
+  )

@@ -1,32 +1,41 @@
 -- What the solver answers, by whether it can work. Assumes nothing.
-use mathlib.Core.Path.{_≡_, refl, sym, ap, _∙_}
+use mathlib.Core.Path.{_≡_, refl, sym, ap, ap₂, _∙_}
 use mathlib.Core.Logic.{⊎-elim}
 use mathlib.Core.Bool.{Bool, true, false, _&&_, _||_, not}
 use mathlib.Core.List.{List}
-use Prim.Native.Nat.{ℕ, _*_, _≤_}
+use Prim.Native.Nat.{ℕ, _+_, _*_, _≤_}
 use native.Mathlib.Nat.{le-refl}
 use native.Mathlib.Omega.{arith}
 use lib.Dec.{eqb, ltb, leb}
-use lib.ListN.{length, take, replicate, length-replicate}
+use lib.ListN.{length, replicate, length-replicate}
 use borrow.Author.Tests.{eqb-true, le-leb, lt-leb, ltb-true, ltb-false}
-use Rattle.statements.specs.Sets.{numbers, over}
+use Rattle.statements.specs.Sets.{pick}
 use Rattle.statements.specs.Plants.{Plant, word, plantOf, plantFault}
 use Rattle.statements.specs.Kept.{keptWithin}
 use Rattle.sets.proofs.Tests.{decided, and-left, and-none}
 use Rattle.sets.proofs.Iterate.{sifted-few}
-use Rattle.sets.proofs.Members.{Sifted}
 use Rattle.kept.proofs.Kept.{kept-sifted}
-use Rattle.decoding.proofs.Faults.{PlantOk}
-use Rattle.arrays.specs.Lists.{fitting, rising}
-use Rattle.arrays.proofs.Ordered.{rising-sifted}
+use Rattle.decoding.proofs.Faults.{states-few}
 use Rattle.tables.specs.Table.{loadable, loadedTable}
 use Rattle.tables.proofs.Loading.{table-loaded}
+use Rattle.arrays.specs.Lists.{rising}
 use Rattle.solve.specs.Given.{Given}
-use Rattle.solve.specs.Rows.{Columns, keptFrom, solvable, among, writtenRows, solvedCount, solvedRows}
-use Rattle.solve.specs.Rounds.{Rest}
-use Rattle.solve.proofs.RoundsSets.{copied}
-use Rattle.solve.proofs.RoundsKept.{begun}
-use Rattle.solve.proofs.RoundsRows.{rows-done}
+use Rattle.solve.specs.Rows.{rowsLong, solvable, among, writtenRows, solvedCount, solvedRows}
+
+-- how many numbers the rows have, by the plant's sort
+pub long-staged : (s : List ℕ) (t : Bool) (x n : ℕ) → t ≡ plantOf s .settles → t ≡ true → x ≡ word 0 s → n ≡ word 2 s
+    → 2 * (x * n) + x ≡ rowsLong (plantOf s)
+unfolding plantOf rowsLong
+long-staged s t x n e known hx hn =
+    ap₂ (λ (x n : ℕ). pick true (2 * (x * n) + x) (2 * (x * n))) hx hn
+    ∙ ap (λ (t : Bool). pick t (2 * (word 0 s * word 2 s) + word 0 s) (2 * (word 0 s * word 2 s))) (sym known ∙ e)
+
+pub long-plain : (s : List ℕ) (t : Bool) (x n : ℕ) → t ≡ plantOf s .settles → t ≡ false → x ≡ word 0 s → n ≡ word 2 s
+    → 2 * (x * n) ≡ rowsLong (plantOf s)
+unfolding plantOf rowsLong
+long-plain s t x n e known hx hn =
+    ap₂ (λ (x n : ℕ). pick false (2 * (x * n) + x) (2 * (x * n))) hx hn
+    ∙ ap (λ (t : Bool). pick t (2 * (word 0 s * word 2 s) + word 0 s) (2 * (word 0 s * word 2 s))) (sym known ∙ e)
 
 -- one order fails where the other holds
 leb-not : (a b : ℕ) → leb a b ≡ not (ltb b a)
@@ -56,24 +65,22 @@ module _ (s : List ℕ) (mask : ℕ) (start entries : List ℕ) where
   unfolding solvedCount solvedRows
   solved e = (rw e, rw e)
 
-module _ (s start entries : List ℕ) (states goals : ℕ) (es : states ≡ plantOf s .states) (eg : goals ≡ plantOf s .goals)
+module _ (s start entries : List ℕ) (states long : ℕ) (es : states ≡ plantOf s .states) (el : long ≡ rowsLong (plantOf s))
     (rises : Bool) (er : rises ≡ rising 0 states start) where
   -- whether the solver can work, by the tests that the start does not rise or the entries are too short
-  room-solvable : solvable s start entries
-      ≡ eqb (plantFault s) 0 && not (not rises || ltb (length entries) (2 * (states * goals)))
+  room-solvable : solvable s start entries ≡ eqb (plantFault s) 0 && not (not rises || ltb (length entries) long)
   unfolding solvable
   room-solvable =
-      rw (← es, ← eg, ← er, leb-not (2 * (states * goals)) (length entries))
-      (ap (λ (b : Bool). eqb (plantFault s) 0 && b) (neither rises (ltb (length entries) (2 * (states * goals)))))
+      rw (← el, ← es, ← er, leb-not long (length entries))
+      (ap (λ (b : Bool). eqb (plantFault s) 0 && b) (neither rises (ltb (length entries) long)))
 
   -- one holds
-  pub short-unsolvable : not rises || ltb (length entries) (2 * (states * goals)) ≡ true
-      → solvable s start entries ≡ false
+  pub short-unsolvable : not rises || ltb (length entries) long ≡ true → solvable s start entries ≡ false
   short-unsolvable e =
       room-solvable ∙ ap (λ (b : Bool). eqb (plantFault s) 0 && not b) e ∙ and-none (eqb (plantFault s) 0) false refl
 
   -- none does: it can work where the table can be loaded
-  pub load-solvable : not rises || ltb (length entries) (2 * (states * goals)) ≡ false
+  pub load-solvable : not rises || ltb (length entries) long ≡ false
       → (table : List ℕ) → 25601 ≤ length table → solvable s start entries ≡ loadable s table
   unfolding loadable
   load-solvable e table long =
@@ -96,43 +103,18 @@ module _ (s : List ℕ) (old : List ℕ) (h : loadable s old ≡ true) where
 pub filled : (n v : ℕ) → n ≤ length (replicate n v)
 filled n v = rw length-replicate (le-refl n)
 
--- the rounds begin with the start, copied to the front of an array
-pub record Begun (p : Plant) (mask : ℕ) (start all : List ℕ) : Type 0 where
-  pub fits : length start ≤ length all
-  pub set : Sifted (numbers (p .states) 0) (take (length start) all)
-  pub same : keptFrom p mask (take (length start) all) ≡ keptWithin p mask (among start)
-
-pub start-begun : (p : Plant) (mask : ℕ) (start : List ℕ) (states : ℕ) (old : List ℕ) {all : List ℕ}
-    → states ≡ p .states → p .states ≤ 1024 → rising 0 states start ≡ true → 1024 ≤ length old
-    → length all ≡ length old → all ≡ over (fitting start old) old → Begun p mask start all
-start-begun p mask start states old es small rise room long en =
-    let set : Sifted (numbers (p .states) 0) start = rising-sifted (p .states) start (rw es at rise) in
-    let few = sifted-few (p .states) start set in
-    let front = copied start old _ (omega arith) en in
-    record {
-      fits = omega arith;
-      set = rw front set;
-      same = ap (keptFrom p mask) front ∙ begun p mask start set;
-    }
-
--- the rounds are done: what the solver answers
-module _ (s : List ℕ) (mask : ℕ) (start all : List ℕ) (b : Begun (plantOf s) mask start all) (ok : PlantOk (plantOf s))
-    {r : ℕ} (is : r ≡ length (keptFrom (plantOf s) mask (take (length start) all))) where
-  pub done-few : r ≤ 1024
-  done-few =
-      let most = ok .sizes .states-most in
+-- the rows are worked out: what the solver answers
+module _ (s : List ℕ) (mask : ℕ) (start : List ℕ) where
+  pub done-few : plantFault s ≡ 0 → {r : ℕ} → r ≡ length (keptWithin (plantOf s) mask (among start)) → r ≤ 1024
+  done-few fine e =
       let kept = keptWithin (plantOf s) mask (among start) in
       let few = sifted-few (plantOf s .states) kept (kept-sifted (plantOf s) mask (among start)) in
-      omega (arith, is ∙ ap length (b .same))
+      omega (arith, states-few s fine)
 
-  pub done-solved : (states goals : ℕ) (old : List ℕ) {new : List ℕ}
-      → states ≡ plantOf s .states → goals ≡ plantOf s .goals → solvable s start old ≡ true
-      → 2 * (states * goals) ≤ length old
-      → Columns (plantOf s) mask (keptFrom (plantOf s) mask (take (length start) all)) (plantOf s .goals) new
-      → Rest (2 * (states * goals)) old new
+  pub done-solved : (old : List ℕ) {r : ℕ} {new : List ℕ} → solvable s start old ≡ true
+      → r ≡ length (keptWithin (plantOf s) mask (among start))
+      → new ≡ writtenRows (plantOf s) mask (keptWithin (plantOf s) mask (among start)) old
       → (r ≡ solvedCount s mask start old) × (new ≡ solvedRows s mask start old)
-  done-solved states goals old es eg can room columns rest =
+  done-solved old can number rows =
       let answer = solved s mask start old can in
-      let rows = rows-done (plantOf s) mask (among start) states goals (take (length start) all) old _
-      (ok .sizes .goals-least) es eg (b .same) columns rest room in
-      (is ∙ ap length (b .same) ∙ answer .0, rows ∙ answer .1)
+      (number ∙ answer .0, rows ∙ answer .1)

@@ -4,3 +4,4 @@ pub mod Reached
 pub mod Reaching
 pub mod Rows
 pub mod Rounds
+pub mod Stages

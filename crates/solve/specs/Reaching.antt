@@ -8,6 +8,7 @@ use lib.ListN.{length, getD, take}
 use Rattle.statements.specs.Sets.{pick, isIn, filter}
 use Rattle.statements.specs.Plants.{Plant, inGoal, moveInto}
 use Rattle.solve.specs.Given.{below}
+use Rattle.solve.specs.Reached.{goes}
 
 -- the states left after a test
 unfoldable pub without : (ℕ → Bool) → List ℕ → List ℕ
@@ -30,15 +31,18 @@ pub record Open (todo : List ℕ) (states steps : ℕ) (waits : List ℕ) : Type
   pub state : (x : ℕ) → isIn x todo ≡ true → x < states
   pub wait : (x : ℕ) → isIn x todo ≡ true → steps ≤ getD waits x 0
 
--- the move of a state that is in a goal, into what an array marks; the number of moves if there is none
-unfoldable pub opened : Plant → ℕ → ℕ → List ℕ → ℕ → ℕ
-opened p mask i member x = pick (inGoal p i x) (moveInto p mask (below member 1 (p .states)) x) (p .moves)
+-- the move of a state that has one in an array, or of one that is in a goal, into what another array marks; the number
+-- of moves if there is none
+unfoldable pub opened : Plant → ℕ → ℕ → List ℕ → List ℕ → ℕ → ℕ
+opened p mask i leave member x =
+    pick (goes p leave x) (getD leave x 0)
+    (pick (inGoal p i x) (moveInto p mask (below member 1 (p .states)) x) (p .moves))
 
 -- the move of a state into what was reached in fewer steps
 unfoldable pub nextMove : Plant → ℕ → List ℕ → ℕ → ℕ → ℕ
 nextMove p mask waits steps x = moveInto p mask (below waits steps (p .states)) x
 
 -- the move that a step looks for: at step 0 from the goal into the set, later into what was reached in fewer steps
-unfoldable pub stepMove : Plant → ℕ → ℕ → List ℕ → List ℕ → ℕ → ℕ → ℕ
-stepMove p mask i member waits zero x = opened p mask i member x
-stepMove p mask i member waits (suc n) x = nextMove p mask waits (suc n) x
+unfoldable pub stepMove : Plant → ℕ → ℕ → List ℕ → List ℕ → List ℕ → ℕ → ℕ → ℕ
+stepMove p mask i leave member waits zero x = opened p mask i leave member x
+stepMove p mask i leave member waits (suc n) x = nextMove p mask waits (suc n) x

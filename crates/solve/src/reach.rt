@@ -2,12 +2,13 @@
 use crate::search::search;
 use arrays::copy;
 use arrays::store;
-use format::plant::in_goal;
+use format::word::bit_at;
+use format::word::pair;
 ghost use mathlib.Core.Path.{_≡_};
 ghost use Prim.Native.Nat.{_+_, _*_, _<_, _≤_};
-ghost use lib.ListN.{length, take};
+ghost use lib.ListN.{length, getD, take};
 ghost use Rattle.statements.specs.Sets.{numbers};
-ghost use Rattle.statements.specs.Plants.{plantOf};
+ghost use Rattle.statements.specs.Plants.{plantOf, plantFault, inGoal};
 ghost use Rattle.sets.proofs.Members.{Sifted};
 ghost use Rattle.solve.specs.Given.{Given};
 ghost use Rattle.solve.specs.Reached.{Marks};
@@ -15,13 +16,37 @@ ghost use Rattle.solve.specs.Reaching.{Swept, Open, stepMove};
 ghost use Rattle.solve.specs.Rows.{Columns};
 ghost use Rattle.solve.specs.Rounds.{Rest};
 
-// The move that a step looks for at a state: at step 0 from the goal into the set, later into what was reached in fewer
-// steps; `none` if there is none.
+// The label of a state of an accepted plant. It is read in the innermost loops, so nothing is tested.
+fn label_in(plant: &[u8], state: u16) -> u16
+    requires accepted { ⌜ plantFault (now plant) ≡ 0 ⌝ }
+    requires in_range { ⌜ state < plantOf (now plant) .states ⌝ }
+    ensures { λ r. ⌜ r ≡ getD (plantOf (now (plant .entry)) .labels) state 0 ⌝ }
+{
+    let at = 16 + 2 * (state as usize);
+    pair(plant[at], plant[at + 1])
+}
+
+// A state of an accepted plant is in a goal.
+fn in_goal(plant: &[u8], goal: u32, state: u16) -> bool
+    requires accepted { ⌜ plantFault (now plant) ≡ 0 ⌝ }
+    requires in_range { ⌜ state < plantOf (now plant) .states ⌝ }
+    ensures { λ r. ⌜ r ≡ inGoal (plantOf (now (plant .entry))) goal state ⌝ }
+{
+    let bits = label_in(plant, state) as u32;
+    if 31 <= goal {
+        return false;
+    }
+    bit_at(bits, goal + 1)
+}
+
+// The move that a step looks for at a state: at step 0 the one by which it leaves, or one from the goal into the set;
+// later one into what was reached in fewer steps; `none` if there is none.
 fn next(
     plant: &[u8],
     mask: u32,
     table: &[u16],
     none: u16,
+    leave: &[u16],
     member: &[u16],
     goal: u32,
     waits: &[u16],
@@ -31,14 +56,19 @@ fn next(
     requires given { ⌜ Given (now plant) mask (now table) none ⌝ }
     requires room { ⌜ (plantOf (now plant) .states ≤ length (now member))
         × (plantOf (now plant) .states ≤ length (now waits)) ⌝ }
+    requires leave_room { ⌜ plantOf (now plant) .states ≤ length (now leave) ⌝ }
     requires in_range { ⌜ state < plantOf (now plant) .states ⌝ }
-    ensures { λ r. ⌜ r ≡ stepMove (plantOf (now (plant .entry))) mask goal (now (member .entry))
+    ensures { λ r. ⌜ r ≡ stepMove (plantOf (now (plant .entry))) mask goal (now (leave .entry)) (now (member .entry))
         (now (waits .entry)) steps state ⌝ }
 {
     if steps != 0 {
         return search(plant, mask, table, none, waits, steps, state);
     }
-    if in_goal(plant, goal, state as u32) {
+    let away = leave[state as usize];
+    if away < none {
+        return away;
+    }
+    if in_goal(plant, goal, state) {
         return search(plant, mask, table, none, member, 1, state);
     }
     none
@@ -50,6 +80,7 @@ fn sweep(
     mask: u32,
     table: &[u16],
     none: u16,
+    leave: &[u16],
     member: &[u16],
     goal: u32,
     count: usize,
@@ -63,8 +94,9 @@ fn sweep(
     requires room { ⌜ (plantOf (now plant) .states ≤ length (now member))
         × (plantOf (now plant) .states ≤ length (now waits))
         × (plantOf (now plant) .states ≤ length (now listed)) × (count ≤ length (now rest)) ⌝ }
+    requires leave_room { ⌜ plantOf (now plant) .states ≤ length (now leave) ⌝ }
     ensures { λ r. ⌜ Swept (take count (now (rest .entry)))
-        (stepMove (plantOf (now (plant .entry))) mask goal (now (member .entry)) (now (waits .entry)) steps)
+        (stepMove (plantOf (now (plant .entry))) mask goal (now (leave .entry)) (now (member .entry)) (now (waits .entry)) steps)
         none steps (now (waits .entry)) (now (listed .entry))
         (now (waits .exit)) (now (listed .exit)) (now (rest .exit)) r ⌝ }
 {
@@ -72,7 +104,18 @@ fn sweep(
     let mut left = 0;
     while k < count {
         let state = rest[k];
-        let found = next(plant, mask, table, none, member, goal, waits, steps, state);
+        let found = next(
+            plant,
+            mask,
+            table,
+            none,
+            leave,
+            member,
+            goal,
+            waits,
+            steps,
+            state,
+        );
         if found < none {
             let x = state as usize;
             waits[x] = steps;
@@ -94,6 +137,7 @@ pub(crate) fn reach(
     none: u16,
     states: usize,
     goals: usize,
+    leave: &[u16],
     all: &[u16],
     member: &[u16],
     goal: usize,
@@ -104,9 +148,10 @@ pub(crate) fn reach(
     requires set { ⌜ Sifted (numbers (plantOf (now plant) .states) 0) (now all) ⌝ }
     requires marked { ⌜ Marks (now all) (now member) × (length (now member) ≡ 1024) ⌝ }
     requires room { ⌜ (goal < goals) × (2 * (states * goals) ≤ length (now entries)) ⌝ }
+    requires leave_room { ⌜ plantOf (now plant) .states ≤ length (now leave) ⌝ }
     ensures columns { λ _. ⌜ (
-        Columns (plantOf (now (plant .entry))) mask (now (all .entry)) goal (now (entries .entry))
-        → Columns (plantOf (now (plant .entry))) mask (now (all .entry)) (goal + 1) (now (entries .exit))) ⌝ }
+        Columns (plantOf (now (plant .entry))) mask (now (leave .entry)) (now (all .entry)) goal (now (entries .entry))
+        → Columns (plantOf (now (plant .entry))) mask (now (leave .entry)) (now (all .entry)) (goal + 1) (now (entries .exit))) ⌝ }
     ensures rest_stays { λ _. ⌜ Rest (2 * (states * goals)) (now (entries .entry)) (now (entries .exit)) ⌝ }
 {
     let mut waits = [65535u16; 1024];
@@ -123,6 +168,7 @@ pub(crate) fn reach(
             mask,
             table,
             none,
+            leave,
             member,
             goal as u32,
             count,

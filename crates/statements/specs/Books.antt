@@ -1,13 +1,13 @@
 -- A control book (a strategy table): its bytes, what is read from any book's bytes, and refusals 4 and 5.
-use mathlib.Core.Bool.{Bool, true, _&&_, _||_, not}
+use mathlib.Core.Bool.{Bool, true, false, _&&_, _||_, not}
 use mathlib.Core.List.{List, [], _∷_, _++_}
 use Prim.Native.Nat.{ℕ, zero, suc, _+_, _-_, _*_, _/_, _%_, _^_}
 use lib.Dec.{eqb, ltb, leb}
 use lib.ListN.{length, drop}
 use lib.Bits.{bitAnd, bitOr}
 use Rattle.statements.specs.Sets.{pick, bit, numbers, every, first, joined, isIn, filter}
-use Rattle.statements.specs.Plants.{word, firstOf, when, Plant, allowed, movesInto}
-use Rattle.statements.specs.Kept.{keptWithin, waitOf, listedMove}
+use Rattle.statements.specs.Plants.{word, firstOf, when, Plant, allowed, movesInto, can}
+use Rattle.statements.specs.Kept.{keptWithin, stageOf, waitOf, listedMove}
 
 -- a two-byte number's bytes, the low one first
 unfoldable pub two : ℕ → List ℕ
@@ -22,9 +22,10 @@ bytesOf (v ∷ vs) = two v ++ bytesOf vs
 abbrev pub lostMark : ℕ
 lostMark = 65535
 
--- the length of a book for s states and n goals
-unfoldable pub bookLong : ℕ → ℕ → ℕ
-bookLong s n = 16 + 4 * (s * n)
+-- the length of a book for s states and n goals, without stages and with them
+unfoldable pub bookLong : Bool → ℕ → ℕ → ℕ
+bookLong false s n = 16 + 4 * (s * n)
+bookLong true s n = 16 + (2 * s + 4 * (s * n))
 
 -- an entry: wait, then move
 unfoldable pub entryOf : Plant → ℕ → List ℕ → ℕ → ℕ → List ℕ
@@ -32,16 +33,21 @@ entryOf p mask kept x i =
     pick (isIn x kept) (two (waitOf p mask kept i x) ++ two (listedMove p mask kept i x))
     (two lostMark ++ two lostMark)
 
--- a state's row: one entry per goal
+-- what a row opens with: in a plant that settles the stage, or the mark
+unfoldable pub stagePart : Plant → ℕ → List ℕ → ℕ → List ℕ
+stagePart p mask kept x =
+    pick (p .settles) (two (pick (isIn x kept) (stageOf p mask kept x) lostMark)) []
+
+-- a state's row: then one entry per goal
 unfoldable pub rowOf : Plant → ℕ → List ℕ → ℕ → List ℕ
-rowOf p mask kept x = joined (p .goals) 0 (entryOf p mask kept x)
+rowOf p mask kept x = stagePart p mask kept x ++ joined (p .goals) 0 (entryOf p mask kept x)
 
 unfoldable pub headOf : Plant → ℕ → List ℕ → List ℕ
 headOf p mask kept =
     two (p .states) ++
     (two (p .moves) ++ (two (p .goals) ++
     (two (length kept) ++ (two (mask % 65536) ++
-    (two (mask / 65536) ++ (two 16 ++ two (bookLong (p .states) (p .goals))))))))
+    (two (mask / 65536) ++ (two 16 ++ two (bookLong (p .settles) (p .states) (p .goals))))))))
 
 -- the book's bytes for a plant, the moves in service and the kept states
 unfoldable pub bookBytes : Plant → ℕ → List ℕ → List ℕ
@@ -63,23 +69,53 @@ bookCount b = word 3 b
 unfoldable pub bookMask : List ℕ → ℕ
 bookMask b = word 4 b + 65536 * word 5 b
 
+unfoldable pub bookTotal : List ℕ → ℕ
+bookTotal b = word 7 b
+
+-- its length tells that a book has stages
+unfoldable pub staged : List ℕ → Bool
+staged b = eqb (bookTotal b) (bookLong true (bookStates b) (bookGoals b))
+
 -- mask k of a list of masks, four bytes each
 unfoldable pub maskAt : List ℕ → ℕ → ℕ
 maskAt m k = word (2 * k) m + 65536 * word (2 * k + 1) m
 
+-- where the row of a state starts, and its entry for a goal; how long a row is
+unfoldable pub rowPlace : List ℕ → ℕ → ℕ
+rowPlace b x = pick (staged b) (16 + (2 * x + 4 * (x * bookGoals b))) (16 + 4 * (x * bookGoals b))
+
+unfoldable pub entryPlace : List ℕ → ℕ → ℕ → ℕ
+entryPlace b x i =
+    pick (staged b) (16 + (2 * suc x + 4 * (x * bookGoals b + i))) (16 + 4 * (x * bookGoals b + i))
+
+unfoldable pub rowLong : List ℕ → ℕ
+rowLong b = pick (staged b) (2 + 4 * bookGoals b) (4 * bookGoals b)
+
 unfoldable pub waitAt : List ℕ → ℕ → ℕ → ℕ
-waitAt b x i = word 0 (drop (16 + 4 * (x * bookGoals b + i)) b)
+waitAt b x i = word 0 (drop (entryPlace b x i) b)
 
 unfoldable pub moveAt : List ℕ → ℕ → ℕ → ℕ
-moveAt b x i = word 1 (drop (16 + 4 * (x * bookGoals b + i)) b)
+moveAt b x i = word 1 (drop (entryPlace b x i) b)
 
--- a state is lost in a book when both places of every entry of its row have the mark
+-- a row's stage; in a book without stages all rows are of stage 1
+unfoldable pub stageAt : List ℕ → ℕ → ℕ
+stageAt b x = pick (staged b) (word 0 (drop (rowPlace b x) b)) 1
+
+-- a state is lost in a book when both places of every entry of its row have the mark, and its stage if there are stages
+unfoldable pub stageLost : List ℕ → ℕ → Bool
+stageLost b x = pick (staged b) (eqb (stageAt b x) lostMark) true
+
 unfoldable pub isLost : List ℕ → ℕ → Bool
-isLost b x = every (bookGoals b) 0 (λ i. eqb (waitAt b x i) lostMark && eqb (moveAt b x i) lostMark)
+isLost b x =
+    stageLost b x && every (bookGoals b) 0 (λ i. eqb (waitAt b x i) lostMark && eqb (moveAt b x i) lostMark)
 
--- a row with every wait at most 1,023 and every move in the book's mask
+-- a row with a stage from 1 to S, every wait at most 1,023 and every move in the book's mask
+unfoldable pub stageHeld : List ℕ → ℕ → Bool
+stageHeld b x = pick (staged b) (leb 1 (stageAt b x) && leb (stageAt b x) (bookStates b)) true
+
 unfoldable pub isHeld : List ℕ → ℕ → Bool
 isHeld b x =
+    stageHeld b x &&
     every (bookGoals b) 0
     (λ i. leb (waitAt b x i) 1023 && (ltb (moveAt b x i) (bookMoves b) && bit (moveAt b x i) (bookMask b)))
 
@@ -95,6 +131,8 @@ unfoldable pub eachOk : ℕ → List ℕ → Bool
 eachOk u [] = true
 eachOk u (mask ∷ more) = maskOk u mask && eachOk u more
 
+-- the header is as document 01 says, with the length of a book without stages or with them, and the bytes lent are as
+-- many as it says
 unfoldable pub bookHeadOk : List ℕ → Bool
 bookHeadOk b =
     let s = bookStates b in
@@ -104,9 +142,10 @@ bookHeadOk b =
     (leb 1 s && (leb s 1024 &&
     (leb 1 u && (leb u 32 &&
     (leb 1 n && (leb n 8 &&
-    (eqb (word 6 b) 16 && (eqb (word 7 b) (bookLong s n) &&
-    (maskOk u (bookMask b) && eqb (length b) (word 7 b))))))))))
+    (eqb (word 6 b) 16 && ((eqb (bookTotal b) (bookLong false s n) || staged b) &&
+    (maskOk u (bookMask b) && eqb (length b) (bookTotal b))))))))))
 
+-- every row is wholly lost or held, and as many are not lost as the header counts
 unfoldable pub rowsOk : List ℕ → Bool
 rowsOk b =
     every (bookStates b) 0 (λ x. isLost b x || isHeld b x) && eqb (bookCount b) (length (bookKept b))
@@ -131,14 +170,30 @@ passes b x i = first (bookGoals b) 0 (λ k. not (served b x (goalAfter (bookGoal
 unfoldable pub arrive : List ℕ → ℕ → ℕ → ℕ
 arrive b x i = goalAfter (bookGoals b) i (passes b x i)
 
--- where a move may lead by the rule of the entry of state x and goal i, read on a book's own rows: to the states that
--- it keeps, above wait 0 to those with a smaller wait
+-- where a move may lead by the rule of the entry of state x and goal i, read on a book's own rows. Without stages: to
+-- the states that it keeps, above wait 0 to those with a smaller wait
 unfoldable pub nearerIn : List ℕ → ℕ → ℕ → List ℕ
 nearerIn b x i = filter (λ y. eqb (waitAt b x i) 0 || ltb (waitAt b y i) (waitAt b x i)) (bookKept b)
 
+-- with stages: to those of earlier stages, if a move leads wholly there; otherwise to those of no later stage, above
+-- wait 0 to those of an earlier stage or of its own with a smaller wait
+unfoldable pub earlierIn : List ℕ → ℕ → List ℕ
+earlierIn b x = filter (λ y. ltb (stageAt b y) (stageAt b x)) (bookKept b)
+
+unfoldable pub onwardIn : List ℕ → ℕ → ℕ → List ℕ
+onwardIn b x i =
+    filter
+    (λ y. ltb (stageAt b y) (stageAt b x) ||
+    (eqb (stageAt b y) (stageAt b x) && (eqb (waitAt b x i) 0 || ltb (waitAt b y i) (waitAt b x i))))
+    (bookKept b)
+
+unfoldable pub ruleIn : Plant → List ℕ → ℕ → ℕ → List ℕ
+ruleIn p b x i =
+    pick (staged b) (pick (can p (bookMask b) (earlierIn b x) x) (earlierIn b x) (onwardIn b x i)) (nearerIn b x i)
+
 -- all moves of a book's mask that meet the rule, as a mask (a permissive strategy); none in a lost state
 unfoldable pub goodMoves : Plant → List ℕ → ℕ → ℕ → ℕ
-goodMoves p b x i = pick (isLost b x) 0 (movesInto p (bookMask b) (nearerIn b x i) x)
+goodMoves p b x i = pick (isLost b x) 0 (movesInto p (bookMask b) (ruleIn p b x i) x)
 
 -- the bits of a mask that are not in another
 unfoldable pub lessMask : ℕ → ℕ → ℕ

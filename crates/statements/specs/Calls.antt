@@ -1,13 +1,14 @@
 -- The calls' refusals, 1 to 9, and lists of calls: the standing book, and the moves in service as told from the calls.
 use mathlib.Core.Bool.{Bool, _&&_, _||_, not}
 use mathlib.Core.List.{List, [], _∷_}
-use Prim.Native.Nat.{ℕ, _+_, _*_, _%_}
+use Prim.Native.Nat.{ℕ, _*_, _%_}
 use lib.Dec.{eqb, leb}
 use lib.ListN.{length, take, drop}
 use lib.Bits.{bitOr}
 use Rattle.statements.specs.Sets.{pick}
 use Rattle.statements.specs.Plants.{firstOf, when, Plant, plantOf, plantFault}
-use Rattle.statements.specs.Books.{bookLong, bookStates, bookMoves, bookGoals, maskOk, eachOk, bookHeadOk}
+use Rattle.statements.specs.Books.{bookLong, bookStates, bookMoves, bookGoals, bookTotal, rowPlace, rowLong}
+use Rattle.statements.specs.Books.{maskOk, eachOk, bookHeadOk}
 use Rattle.statements.specs.Books.{bookFault, lessMask, madeBook, withdrawnBook, masksOf, unionOf, withdrawnList}
 use Rattle.statements.specs.Books.{returnedBook}
 
@@ -25,7 +26,7 @@ masksFault p m = firstOf (when (not (wholeMasks m)) 9) (when (not (eachOk (p .mo
 
 -- answer 7: a book buffer under the book's length, or a drop buffer under 2S bytes
 unfoldable pub bookRoom : Plant → ℕ → Bool
-bookRoom p room = leb (bookLong (p .states) (p .goals)) room
+bookRoom p room = leb (bookLong (p .settles) (p .states) (p .goals)) room
 
 unfoldable pub dropRoom : Plant → ℕ → Bool
 dropRoom p drops = leb (2 * p .states) drops
@@ -39,9 +40,12 @@ makeFault s mask room =
     let p = plantOf s in
     firstOf (plantFault s) (firstOf (maskFault p mask) (when (not (bookRoom p room)) 7))
 
--- a book for as many states, moves and goals as the plant has
+-- a book for as many states, moves and goals as the plant has, and of its sort: as long as its books are
 unfoldable pub alike : Plant → List ℕ → Bool
-alike p b = eqb (bookStates b) (p .states) && (eqb (bookMoves b) (p .moves) && eqb (bookGoals b) (p .goals))
+alike p b =
+    eqb (bookStates b) (p .states) &&
+    (eqb (bookMoves b) (p .moves) &&
+    (eqb (bookGoals b) (p .goals) && eqb (bookTotal b) (bookLong (p .settles) (p .states) (p .goals))))
 
 -- what every call that is lent a plant and a book answers to these, first of all: 1 to 5, or 0
 unfoldable pub lentFault : List ℕ → List ℕ → ℕ
@@ -84,7 +88,7 @@ movesFault s b x i = firstOf (lentFault s b) (numberFault b x i)
 -- the part of a book that row hands back; empty when refused
 unfoldable pub rowPart : List ℕ → ℕ → List ℕ
 rowPart b x =
-    pick (eqb (consultFault b x 0) 0) (take (4 * bookGoals b) (drop (16 + 4 * (x * bookGoals b)) b)) []
+    pick (eqb (consultFault b x 0) 0) (take (rowLong b) (drop (rowPlace b x) b)) []
 
 -- a make, or a withdrawal or a list of them from the standing book, or a return to it: its mask, or its masks' bytes,
 -- and its buffers' lengths

@@ -5,18 +5,20 @@ use mathlib.Core.Path.{_≡_}
 use mathlib.Core.Logic.{_↔_, _⊎_}
 use mathlib.Core.Bool.{true, false}
 use mathlib.Core.List.{List}
-use Prim.Native.Nat.{ℕ, _+_, _≤_, _<_}
+use Prim.Native.Nat.{ℕ, suc, _+_, _≤_, _<_}
 use lib.ListN.{length, getD}
 use lib.Bits.{bitOr}
 use Rattle.statements.specs.Sets.{bit, lowest, isIn}
 use Rattle.statements.specs.Plants.{word, Plant, plantOf, allowed, ends, available}
-use Rattle.statements.specs.Books.{bookLong, bookStates, bookMoves, bookGoals, bookCount, bookMask, waitAt}
-use Rattle.statements.specs.Books.{moveAt, isLost, bookKept, bookFault, goalAfter, passes, arrive, goodMoves}
+use Rattle.statements.specs.Books.{bookLong, bookStates, bookMoves, bookGoals, bookCount, bookMask, bookTotal}
+use Rattle.statements.specs.Books.{waitAt, moveAt, stageAt, isLost, bookKept, bookFault, goalAfter, passes}
+use Rattle.statements.specs.Books.{arrive, goodMoves}
 use Rattle.statements.specs.Books.{lessMask, keptBefore, madeBook, withdrawnBook, masksOf, unionOf}
 use Rattle.statements.specs.Books.{withdrawnList, returnedBook, droppedStates, gainedStates}
 use Rattle.statements.specs.Calls.{makeFault, withdrawFault, withdrawListFault, returnFault, Call, standing}
 use Rattle.statements.specs.Calls.{answers, told, inService, singles}
-use Rattle.statements.specs.Strategies.{Wins-by, Wins, Forces, following, Picks, Serves}
+use Rattle.statements.specs.Strategies.{Run, Wins-by, Wins, Forces, InGoal, Stays, unsettled, following}
+use Rattle.statements.specs.Strategies.{Picks, Serves}
 
 -- move u is available in x, and all its arrows end in states with a property
 pub record Meets (p : Plant) (mask x : ℕ) (good : ℕ → Type 0) (u : ℕ) : Type 0 where
@@ -33,12 +35,60 @@ pub record Lowest (p : Plant) (mask x : ℕ) (good : ℕ → Type 0) (u : ℕ) :
 abbrev pub Nearer : Plant → ℕ → (ℕ → Type 0) → List ℕ → ℕ → ℕ → ℕ → Type 0
 Nearer p mask within b x i y = Wins p mask within y × (0 < waitAt b x i → waitAt b y i < waitAt b x i)
 
+-- request (ix): b keeps y, in a stage below k
+abbrev pub Below : Plant → ℕ → (ℕ → Type 0) → List ℕ → ℕ → ℕ → Type 0
+Below p mask within b k y = Wins p mask within y × (stageAt b y < k)
+
+-- a state with an available move wholly into stages below k
+abbrev pub Exits : Plant → ℕ → (ℕ → Type 0) → List ℕ → ℕ → ℕ → Type 0
+Exits p mask within b k x = (u : ℕ) × Meets p mask x (Below p mask within b k) u
+
+-- what the wait of x for goal i is for: the goal, an earlier stage than that of x, or a state of the same stage with an
+-- available move wholly into earlier ones
+abbrev pub Arrived : Plant → ℕ → (ℕ → Type 0) → List ℕ → ℕ → ℕ → ℕ → Type 0
+Arrived p mask within b x i y =
+    InGoal p i y ⊎
+    (Below p mask within b (stageAt b x) y ⊎
+    (Wins p mask within y × (stageAt b y ≡ stageAt b x) × Exits p mask within b (stageAt b x) y))
+
+-- the rule of the entry of x and goal i where x has no such move: no later stage, above wait 0 an earlier one or a
+-- smaller wait
+abbrev pub Onward : Plant → ℕ → (ℕ → Type 0) → List ℕ → ℕ → ℕ → ℕ → Type 0
+Onward p mask within b x i y =
+    Below p mask within b (suc (stageAt b x)) y ×
+    (0 < waitAt b x i → (stageAt b y < stageAt b x) ⊎ (waitAt b y i < waitAt b x i))
+
+-- request (ix) in its own words, of the rows of a plant that settles
+pub record HasStages (p : Plant) (mask : ℕ) (within : ℕ → Type 0) (b : List ℕ) : Type 0 where
+  -- stages run from 1 to S
+  pub range : (x : ℕ) → x < p .states → Wins p mask within x → (1 ≤ stageAt b x) × (stageAt b x ≤ p .states)
+  -- a state has the least stage k for which a strategy never gets stuck, stays in the set and, on every run, passes only
+  -- settled states and either meets every goal again and again or comes to a state, settled or not, with an available
+  -- move wholly into stages below k
+  pub stage : (x k : ℕ) → x < p .states → 0 < k →
+      (Wins p mask within x × (stageAt b x ≤ k)) ↔ Stays p mask within (Exits p mask within b k) x
+  -- a state with an available move wholly into stages below its own takes the lowest such move, with wait 0 for every
+  -- goal
+  pub exit-wait : (x i : ℕ) → x < p .states → i < p .goals → Wins p mask within x →
+      Exits p mask within b (stageAt b x) x → waitAt b x i ≡ 0
+  pub exit-move : (x i : ℕ) → x < p .states → i < p .goals → Wins p mask within x →
+      Exits p mask within b (stageAt b x) x → Lowest p mask x (Below p mask within b (stageAt b x)) (moveAt b x i)
+  -- a kept state's wait is the least number of moves that forces, through no later stage, the goal, an earlier stage or
+  -- a state of its own stage with such a move. So it is 0 in the goal
+  pub wait : (x i n : ℕ) → x < p .states → i < p .goals → Wins p mask within x →
+      (waitAt b x i ≤ n) ↔
+      Forces p mask (Below p mask within b (suc (stageAt b x))) x (Arrived p mask within b x i) n
+  -- any other state's move is the lowest available one into no later stage, above wait 0 into an earlier one or its own
+  -- with a smaller wait
+  pub move : (x i : ℕ) → x < p .states → i < p .goals → Wins p mask within x →
+      (Exits p mask within b (stageAt b x) x → ⊥) → Lowest p mask x (Onward p mask within b x i) (moveAt b x i)
+
 -- document 01, "The book's bytes", in its own words: b is the book for a plant, the moves in service and the set that
--- strategies may not leave. A state is kept when a strategy wins from it.
+-- strategies may not leave. A state is kept when a strategy wins from it. For a plant that settles, request (ix)
 pub record IsBook (p : Plant) (mask : ℕ) (within : ℕ → Type 0) (b : List ℕ) : Type 0 where
   -- a list of bytes, as many as the header says
   pub bytes : (k : ℕ) → getD b k 0 < 256
-  pub size : length b ≡ bookLong (p .states) (p .goals)
+  pub size : length b ≡ bookLong (p .settles) (p .states) (p .goals)
   -- the header's eight numbers
   pub states : bookStates b ≡ p .states
   pub moves : bookMoves b ≡ p .moves
@@ -46,15 +96,18 @@ pub record IsBook (p : Plant) (mask : ℕ) (within : ℕ → Type 0) (b : List �
   pub count : bookCount b ≡ length (bookKept b)
   pub mask-is : bookMask b ≡ mask
   pub rows-at : word 6 b ≡ 16
-  pub total : word 7 b ≡ length b
-  -- a lost state has the mark in both places of every entry, and only a lost state has
+  pub total : bookTotal b ≡ length b
+  -- a lost state has the mark in both places of every entry, and in place of a stage, and only a lost state has
   pub kept : (x : ℕ) → x < p .states → (isLost b x ≡ false) ↔ Wins p mask within x
   -- a kept state's wait is the least number of moves in which the goal can be forced within kept states
-  pub wait : (x i n : ℕ) → x < p .states → i < p .goals → Wins p mask within x →
-      (waitAt b x i ≤ n) ↔ Forces p mask (Wins p mask within) x i n
+  pub wait : p .settles ≡ false → (x i n : ℕ) → x < p .states → i < p .goals → Wins p mask within x →
+      (waitAt b x i ≤ n) ↔ Forces p mask (Wins p mask within) x (InGoal p i) n
   -- its move is the lowest available one into kept states, above wait 0 into those with a smaller wait
-  pub move : (x i : ℕ) → x < p .states → i < p .goals → Wins p mask within x →
+  pub move : p .settles ≡ false → (x i : ℕ) → x < p .states → i < p .goals → Wins p mask within x →
       Lowest p mask x (Nearer p mask within b x i) (moveAt b x i)
+  -- where the plant does not settle all rows count as of stage 1; where it does they have stages
+  pub one-stage : p .settles ≡ false → (x : ℕ) → stageAt b x ≡ 1
+  pub has-stages : p .settles ≡ true → HasStages p mask within b
 
 -- the sets that strategies may not leave: in a making the allowed states, in a withdrawal those of them that the book
 -- handed in keeps
@@ -81,9 +134,24 @@ pub record Right (p : Plant) (mask : ℕ) (within : ℕ → Type 0) (b : List �
   -- following the book from a kept state and any first goal wins without leaving kept states
   pub follows : (x goal : ℕ) → x < p .states → goal < p .goals → isLost b x ≡ false →
       Wins-by p mask (Wins p mask within) x (following b goal)
+  -- its runs have fewer states that are not settled than the first one's stage says
+  pub few : p .settles ≡ true → (x goal : ℕ) → x < p .states → goal < p .goals → isLost b x ≡ false →
+      (states moves : ℕ → ℕ) → Run p mask (following b goal) x states moves → (n : ℕ) →
+      unsettled p states n < stageAt b x
+  -- every move of the set of an entry is available, and leads to kept states alone
+  pub safe : (x i u : ℕ) → x < p .states → i < p .goals → bit u (goodMoves p b x i) ≡ true →
+      Meets p mask x (Wins p mask within) u
   -- the set of an entry has exactly the moves that meet its rule, and none in a lost state
-  pub set : (x i u : ℕ) → x < p .states → i < p .goals →
+  pub set : p .settles ≡ false → (x i u : ℕ) → x < p .states → i < p .goals →
       (bit u (goodMoves p b x i) ≡ true) ↔ (Wins p mask within x × Meets p mask x (Nearer p mask within b x i) u)
+  -- where the plant settles: the moves wholly into earlier stages, if any; otherwise those that meet the rule
+  pub exit-set : p .settles ≡ true → (x i u : ℕ) → x < p .states → i < p .goals →
+      Exits p mask within b (stageAt b x) x →
+      (bit u (goodMoves p b x i) ≡ true) ↔
+      (Wins p mask within x × Meets p mask x (Below p mask within b (stageAt b x)) u)
+  pub stage-set : p .settles ≡ true → (x i u : ℕ) → x < p .states → i < p .goals →
+      (Exits p mask within b (stageAt b x) x → ⊥) →
+      (bit u (goodMoves p b x i) ≡ true) ↔ (Wins p mask within x × Meets p mask x (Onward p mask within b x i) u)
   -- the set of a kept state is not empty, and the listed move is its lowest
   pub listed : (x i : ℕ) → x < p .states → i < p .goals → isLost b x ≡ false →
       (bit (moveAt b x i) (goodMoves p b x i) ≡ true) × (moveAt b x i ≡ lowest (p .moves) (goodMoves p b x i))
@@ -118,6 +186,9 @@ pub record Demand-2 : Type 0 where
   -- and for that of a withdrawal from any book, also one that nobody made
   pub withdrawn : (s b : List ℕ) (gone room drops : ℕ) → withdrawFault s b gone room drops ≡ 0 →
       Right (plantOf s) (lessMask (bookMask b) gone) (KeptBefore (plantOf s) b) (withdrawnBook (plantOf s) b gone)
+  -- where the states not to be left are the allowed ones that b keeps
+  pub before : (p : Plant) (b : List ℕ) (x : ℕ) →
+      KeptBefore p b x ↔ ((allowed p x ≡ true) × (isLost b x ≡ false))
   -- the drop list: the states kept before and lost now
   pub dropped : (s b : List ℕ) (gone room drops : ℕ) → withdrawFault s b gone room drops ≡ 0 → (x : ℕ) →
       let after = withdrawnBook (plantOf s) b gone in

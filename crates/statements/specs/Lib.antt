@@ -7,3 +7,4 @@ pub mod Calls
 pub mod Strategies
 pub mod Demands
 pub mod Marked
+pub mod MarkedStages

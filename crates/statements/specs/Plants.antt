@@ -2,10 +2,11 @@
 -- transition system with labelled states; a move is an action (a control input), an arrow a transition.
 use mathlib.Core.Bool.{Bool, true, false, _&&_, not}
 use mathlib.Core.List.{List, [], _∷_}
-use Prim.Native.Nat.{ℕ, zero, suc, _+_, _*_, _^_}
+use Prim.Native.Nat.{ℕ, zero, suc, _+_, _-_, _*_, _^_}
 use lib.Dec.{eqb, ltb, leb}
 use lib.ListN.{length, getD, drop}
-use Rattle.statements.specs.Sets.{bit, consIf, allIn, first, bits}
+use lib.Bits.{bitAnd}
+use Rattle.statements.specs.Sets.{pick, bit, consIf, allIn, first, bits}
 
 -- number i of a list of bytes read as two-byte numbers, the low byte first
 unfoldable pub word : ℕ → List ℕ → ℕ
@@ -21,10 +22,12 @@ pub record Arrow : Type 0 where
   pub move : ℕ
   pub to : ℕ
 
+-- a plant of the second sort settles: its last header number is 1, and every run must end up settled (persistence)
 pub record Plant : Type 0 where
   pub states : ℕ
   pub moves : ℕ
   pub goals : ℕ
+  pub settles : Bool
   pub labels : List ℕ
   pub arrows : List Arrow
 
@@ -41,11 +44,12 @@ plantOf s =
       states = word 0 s;
       moves = word 1 s;
       goals = word 2 s;
+      settles = eqb (word 7 s) 1;
       labels = words (word 0 s) (drop 16 s);
       arrows = arrowsFrom (word 3 s) (drop (16 + 2 * word 0 s) s);
     }
 
--- the header is as document 01 says, and the bytes lent are as many as it says
+-- the header is as document 01 says, with 0 or 1 for its last number, and the bytes lent are as many as it says
 unfoldable pub headOk : List ℕ → Bool
 headOk s =
     let n = word 0 s in
@@ -56,12 +60,12 @@ headOk s =
     (leb 1 (word 2 s) && (leb (word 2 s) 8 &&
     (leb e 8192 && (eqb (word 4 s) 16 &&
     (eqb (word 5 s) (16 + 2 * n) &&
-    (eqb (word 6 s) (16 + (2 * n + 6 * e)) && (eqb (word 7 s) 0 && eqb (length s) (word 6 s))))))))))))
+    (eqb (word 6 s) (16 + (2 * n + 6 * e)) && (leb (word 7 s) 1 && eqb (length s) (word 6 s))))))))))))
 
--- no label has a bit above bit n
-unfoldable pub labelsOk : ℕ → List ℕ → Bool
-labelsOk n [] = true
-labelsOk n (l ∷ ls) = ltb l (2 ^ suc n) && labelsOk n ls
+-- no label has a bit above bit n, bit 9 left aside where the plant settles
+unfoldable pub labelsOk : Bool → ℕ → List ℕ → Bool
+labelsOk settles n [] = true
+labelsOk settles n (l ∷ ls) = ltb (pick settles (l - bitAnd l 512) l) (2 ^ suc n) && labelsOk settles n ls
 
 -- arrows are compared by from, then move, then to
 unfoldable pub rank : Arrow → ℕ
@@ -88,15 +92,19 @@ unfoldable pub plantFault : List ℕ → ℕ
 plantFault s =
     let p = plantOf s in
     firstOf (when (not (headOk s)) 1)
-    (firstOf (when (not (labelsOk (p .goals) (p .labels))) 2)
+    (firstOf (when (not (labelsOk (p .settles) (p .goals) (p .labels))) 2)
     (when (not (arrowsOk (p .states) (p .moves) 0 (p .arrows))) 3))
 
--- label bits: bit 0 says allowed (the safe states), bit 1 + i says in goal i (a recurrence set)
+-- label bits: bit 0 says allowed (the safe states), bit 1 + i says in goal i (a recurrence set), and in a plant that
+-- settles bit 9 says settled (the persistence set)
 unfoldable pub allowed : Plant → ℕ → Bool
 allowed p x = bit 0 (getD (p .labels) x 0)
 
 unfoldable pub inGoal : Plant → ℕ → ℕ → Bool
 inGoal p i x = bit (suc i) (getD (p .labels) x 0)
+
+unfoldable pub settled : Plant → ℕ → Bool
+settled p x = bit 9 (getD (p .labels) x 0)
 
 -- where a move made in a state may lead: the ends of its arrows there
 unfoldable pub endsIn : List Arrow → ℕ → ℕ → List ℕ

@@ -6,7 +6,7 @@ use Prim.Native.Nat.{ℕ, suc, _+_, _-_}
 use native.Mathlib.Omega.{arith}
 use native.Mathlib.Decide.{decLt}
 use Rattle.statements.specs.Sets.{isIn}
-use Rattle.statements.specs.Plants.{Plant, inGoal, ends, available}
+use Rattle.statements.specs.Plants.{Plant, ends, available}
 use Rattle.statements.specs.Strategies.{turns, Strategy, Forces-by, Forces}
 use Rattle.kept.proofs.Moves.{available-end}
 use Rattle.winning.proofs.Runs.{Answer, Opposed, opposed}
@@ -15,8 +15,8 @@ use Rattle.winning.proofs.Runs.{Answer, Opposed, opposed}
 abbrev Left : (ℕ → ℕ → Type 0) → ℕ → ℕ → ℕ → Type 0
 Left far n k x = (j : ℕ) → k + j ≡ n → far j x
 
-module _ (p : Plant) (mask : ℕ) (kept : ℕ → Type 0) (i : ℕ) (far : ℕ → ℕ → Type 0)
-    (unmet : (n x : ℕ) → kept x → far n x → inGoal p i x ≡ true → ⊥)
+module _ (p : Plant) (mask : ℕ) (kept good : ℕ → Type 0) (far : ℕ → ℕ → Type 0)
+    (unmet : (n x : ℕ) → kept x → far n x → good x → ⊥)
     (avoid : (n x u : ℕ) → kept x → far (suc n) x → available p mask x u ≡ true →
     (y : ℕ) × (isIn y (ends p x u) ≡ true) × (kept y → far n y))
     (n : ℕ) where
@@ -36,7 +36,7 @@ module _ (p : Plant) (mask : ℕ) (kept : ℕ → Type 0) (i : ℕ) (far : ℕ �
 
   -- the run so made misses the goal
   missed :
-      (x : ℕ) (f : Strategy) → Forces-by p mask kept x i n f →
+      (x : ℕ) (f : Strategy) → Forces-by p mask kept x good n f →
       Opposed p mask x f (Left far n) (λ x y. Unit {0}) → ⊥
   missed x f w r =
       let m = w .in-time (r .states) (r .moves) (r .run) in
@@ -45,7 +45,7 @@ module _ (p : Plant) (mask : ℕ) (kept : ℕ → Type 0) (i : ℕ) (far : ℕ �
       unmet (n - m .0) y k (r .known m.0 (n - m .0) (omega arith)) (m .2)
 
   -- a goal that is further than n moves cannot be forced within n
-  pub too-far : (x : ℕ) → far n x → Forces p mask kept x i n → ⊥
+  pub too-far : (x : ℕ) → far n x → Forces p mask kept x good n → ⊥
   too-far x h w =
       missed x (w .0) (w .1)
       (opposed p mask kept x (w .0) (Left far n) (λ x y. Unit {0}) (w .1 .holds)

@@ -85,15 +85,24 @@ module _ (p : Plant) (mask : ℕ) (within more : ℕ → Type 0) (larger : (y : 
 
   -- a strategy that wins within a set wins within a larger one
   pub wins-by-larger : (f : Strategy) → Wins-by p mask within x f → Wins-by p mask more x f
-  wins-by-larger f w = record { holds = holds-larger f (w .holds); again = w .again }
+  wins-by-larger f w = record { holds = holds-larger f (w .holds); again = w .again; settles = w .settles }
 
   -- where a strategy wins within a set, one wins within a larger one
   pub wins-larger : Wins p mask within x → Wins p mask more x
   wins-larger w = (w .0, wins-by-larger (w .0) (w .1))
 
-  -- where a strategy forces a goal in time within a set, one does within a larger one
-  pub forces-larger : (i n : ℕ) → Forces p mask within x i n → Forces p mask more x i n
-  forces-larger i n w = (w .0, record { holds = holds-larger (w .0) (w .1 .holds); in-time = w .1 .in-time })
+  -- where a strategy forces a property in time within a set, one forces a wider one within a larger set
+  pub forces-larger : (good other : ℕ → Type 0) → ((y : ℕ) → good y → other y) → (n : ℕ) →
+      Forces p mask within x good n → Forces p mask more x other n
+  forces-larger good other wider n w = (
+    w .0,
+    record {
+      holds = holds-larger (w .0) (w .1 .holds);
+      in-time = λ states moves r.
+          let m = w .1 .in-time states moves r in
+          (m .0, m .1, wider (states m.0) (m .2));
+    },
+  )
 
 -- a move whose arrows end in states with a property ends in states with a wider one
 pub meets-larger :
@@ -103,11 +112,13 @@ meets-larger p mask x u good other larger h =
     record { is-available = h .is-available; ends-well = λ y m. larger y (h .ends-well y m) }
 
 module _ (p : Plant) (mask : ℕ) (within other : ℕ → Type 0) (same : (y : ℕ) → within y ↔ other y) (x : ℕ) where
-  -- a strategy forces a goal in time within a set exactly when one does within another set of the same states
-  pub forces-same : (i n : ℕ) → Forces p mask within x i n ↔ Forces p mask other x i n
-  forces-same i n = (
-    forces-larger p mask within other (λ y. same y .0) x i n,
-    forces-larger p mask other within (λ y. same y .1) x i n,
+  -- a strategy forces a property in time within a set exactly when one forces the same within another set of the same
+  -- states
+  pub forces-same : (good as-good : ℕ → Type 0) → ((y : ℕ) → good y ↔ as-good y) → (n : ℕ) →
+      Forces p mask within x good n ↔ Forces p mask other x as-good n
+  forces-same good as-good alike n = (
+    forces-larger p mask within other (λ y. same y .0) x good as-good (λ y. alike y .0) n,
+    forces-larger p mask other within (λ y. same y .1) x as-good good (λ y. alike y .1) n,
   )
 
 -- a state from which a strategy wins without leaving a set is in the set

@@ -2,16 +2,18 @@
 -- its header and of its rows. Assumes nothing.
 use mathlib.Core.Path.{_≡_, refl, sym, ap, ap₂, _∙_}
 use mathlib.Core.Logic.{inl, inr}
+use mathlib.Core.Bool.{Bool, true, false}
 use mathlib.Core.List.{List, [], _∷_, _++_, append-assoc, append-nil}
 use Prim.Native.Nat.{ℕ, zero, suc, _+_, _*_, _/_, _%_, _≤_, _<_}
 use native.Mathlib.Numerals.{add-one}
 use native.Mathlib.Omega.{arith}
 use lib.ListN.{length, getD, take, drop, length-append, take-append-drop}
 use lib.Seq.{sets, take-suc, take-all, length-take-le}
-use Rattle.statements.specs.Sets.{joined, isIn, over}
+use Rattle.statements.specs.Sets.{pick, joined, isIn, over}
 use Rattle.statements.specs.Plants.{Plant}
-use Rattle.statements.specs.Books.{two, bytesOf, bookLong, entryOf, rowOf, headOf, bookBytes}
-use Rattle.solve.specs.Rows.{entryNumbers, rowNumbers}
+use Rattle.statements.specs.Kept.{stageOf}
+use Rattle.statements.specs.Books.{two, bytesOf, lostMark, bookLong, entryOf, stagePart, rowOf, headOf, bookBytes}
+use Rattle.solve.specs.Rows.{entryNumbers, stageNumbers, oneRow, rowNumbers, rowsLong}
 use Rattle.sets.proofs.Tests.{decided}
 use Rattle.sets.proofs.Joined.{joined-length, joined-same}
 use Rattle.sets.proofs.Over.{over-length, over-more, over-after}
@@ -101,12 +103,22 @@ module _ {numbers : List ℕ} {from : ℕ} {o o′ : List ℕ} {at k : ℕ} (r :
 
 -- a book's header, stored as eight numbers
 pub head-stored : (p : Plant) (mask : ℕ) (kept o : List ℕ) (s u n k : ℕ) {o′ : List ℕ} → s ≡ p .states → u ≡ p .moves
-    → n ≡ p .goals → k ≡ length kept
-    → (let numbers = s ∷ u ∷ n ∷ k ∷ mask % 65536 ∷ mask / 65536 ∷ 16 ∷ (16 + 4 * (s * n)) ∷ [] in
+    → n ≡ p .goals → k ≡ length kept → (long : ℕ) → long ≡ bookLong (p .settles) (p .states) (p .goals)
+    → (let numbers = s ∷ u ∷ n ∷ k ∷ mask % 65536 ∷ mask / 65536 ∷ 16 ∷ long ∷ [] in
     o′ ≡ take 0 o ++ (bytesOf numbers ++ drop (0 + 2 * length numbers) o))
     → o′ ≡ over (headOf p mask kept) o
-unfolding headOf bytesOf two bookLong over
-head-stored p mask kept o s u n k es eu en ek w = w ∙ rw (es, eu, en, ek)
+unfolding headOf bytesOf two over
+head-stored p mask kept o s u n k es eu en ek long el w = w ∙ rw (el, es, eu, en, ek)
+
+-- a book is its header's 16 bytes and two for each number of its rows
+long-by : (t : Bool) (s n : ℕ) → bookLong t s n ≡ 16 + 2 * pick t (2 * (s * n) + s) (2 * (s * n))
+unfolding bookLong
+long-by true s n = omega arith
+long-by false s n = omega arith
+
+pub long-rows : (p : Plant) → bookLong (p .settles) (p .states) (p .goals) ≡ 16 + 2 * rowsLong p
+unfolding rowsLong
+long-rows p = long-by (p .settles) (p .states) (p .goals)
 
 module _ (p : Plant) (mask : ℕ) (kept : List ℕ) where
   -- an entry's bytes are those of its two numbers, and a row's those of its entries
@@ -114,28 +126,51 @@ module _ (p : Plant) (mask : ℕ) (kept : List ℕ) where
   unfolding entryNumbers entryOf bytesOf two
   entry-split x i = elim (decided (isIn x kept)) [ inl h ↦ rw h | inr h ↦ rw h ]
 
-  row-split : (x : ℕ) → bytesOf (joined (p .goals) 0 (entryNumbers p mask kept x)) ≡ rowOf p mask kept x
-  unfolding rowOf
+  -- what it opens with
+  stage-by : (t : Bool) (v : ℕ) → bytesOf (pick t (v ∷ []) []) ≡ pick t (two v) []
+  unfolding bytesOf two
+  stage-by true v = refl
+  stage-by false v = refl
+
+  stage-split : (x : ℕ) → bytesOf (stageNumbers p mask kept x) ≡ stagePart p mask kept x
+  unfolding stageNumbers stagePart
+  stage-split x = stage-by (p .settles) (pick (isIn x kept) (stageOf p mask kept x) lostMark)
+
+  row-split : (x : ℕ) → bytesOf (oneRow p mask kept x) ≡ rowOf p mask kept x
+  unfolding oneRow rowOf
   row-split x =
-      bytes-joined (entryNumbers p mask kept x) (p .goals) 0 ∙ joined-same _ _ (p .goals) 0 (λ i l h. entry-split x i)
+      bytes-append (stageNumbers p mask kept x) (joined (p .goals) 0 (entryNumbers p mask kept x))
+      ∙ ap₂ (λ (xs ys : List ℕ). xs ++ ys) (stage-split x)
+      (bytes-joined (entryNumbers p mask kept x) (p .goals) 0 ∙ joined-same _ _ (p .goals) 0 (λ i l h. entry-split x i))
 
   -- a book is its header and the bytes of its rows' numbers
   pub book-split : bookBytes p mask kept ≡ headOf p mask kept ++ bytesOf (rowNumbers p mask kept)
   unfolding bookBytes rowNumbers
   book-split =
-      let rows = bytes-joined (λ x. joined (p .goals) 0 (entryNumbers p mask kept x)) (p .states) 0
+      let rows = bytes-joined (oneRow p mask kept) (p .states) 0
       ∙ joined-same _ _ (p .states) 0 (λ x l h. row-split x) in
       ap (λ (ys : List ℕ). headOf p mask kept ++ ys) (sym rows)
 
-  -- as many numbers as two for each state and goal
-  pub rows-count : length (rowNumbers p mask kept) ≡ 2 * (p .states * p .goals)
-  unfolding rowNumbers entryNumbers
+  -- as many numbers as two for each state and goal, and one for each state where there are stages
+  entry-count : (x i : ℕ) → length (entryNumbers p mask kept x i) ≡ 2
+  unfolding entryNumbers
+  entry-count x i = elim (decided (isIn x kept)) [ inl h ↦ rw h | inr h ↦ rw h ]
+
+  row-by : (t : Bool) (v x : ℕ) → length (pick t (v ∷ []) [] ++ joined (p .goals) 0 (entryNumbers p mask kept x))
+      ≡ pick t 1 0 + p .goals * 2
+  row-by true v x = omega (arith, joined-length (entryNumbers p mask kept x) 2 (entry-count x) (p .goals) 0)
+  row-by false v x = omega (arith, joined-length (entryNumbers p mask kept x) 2 (entry-count x) (p .goals) 0)
+
+  total-by : (t : Bool) (s n : ℕ) → s * (pick t 1 0 + n * 2) ≡ pick t (2 * (s * n) + s) (2 * (s * n))
+  total-by true s n = omega arith
+  total-by false s n = omega arith
+
+  pub rows-count : length (rowNumbers p mask kept) ≡ rowsLong p
+  unfolding rowNumbers oneRow stageNumbers rowsLong
   rows-count =
-      let entry : (x i : ℕ) → length (entryNumbers p mask kept x i) ≡ 2 =
-      λ x i. elim (decided (isIn x kept)) [ inl h ↦ rw h | inr h ↦ rw h ] in
-      let row : (x : ℕ) → length (joined (p .goals) 0 (entryNumbers p mask kept x)) ≡ p .goals * 2 =
-      λ x. joined-length (entryNumbers p mask kept x) 2 (entry x) (p .goals) 0 in
-      joined-length _ (p .goals * 2) row (p .states) 0 ∙ omega arith
+      joined-length (oneRow p mask kept) (pick (p .settles) 1 0 + p .goals * 2)
+      (λ x. row-by (p .settles) (pick (isIn x kept) (stageOf p mask kept x) lostMark) x) (p .states) 0
+      ∙ total-by (p .settles) (p .states) (p .goals)
 
   -- the header written, then the rows
   pub book-written : (rows o : List ℕ) {o₁ o₂ : List ℕ} → o₁ ≡ over (headOf p mask kept) o

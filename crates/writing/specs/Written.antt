@@ -14,11 +14,12 @@ unfoldable pub writable : List ℕ → List ℕ → List ℕ → Bool
 writable s start o =
     eqb (plantFault s) 0
     && (rising 0 (plantOf s .states) start
-    && leb (bookLong (plantOf s .states) (plantOf s .goals)) (length o))
+    && leb (bookLong (plantOf s .settles) (plantOf s .states) (plantOf s .goals)) (length o))
 
 -- the book's length, and the buffer with the book written; 0 and nothing where it cannot be written
 unfoldable pub writtenLong : List ℕ → List ℕ → List ℕ → ℕ
-writtenLong s start o = pick (writable s start o) (bookLong (plantOf s .states) (plantOf s .goals)) 0
+writtenLong s start o =
+    pick (writable s start o) (bookLong (plantOf s .settles) (plantOf s .states) (plantOf s .goals)) 0
 
 unfoldable pub writtenBook : List ℕ → ℕ → List ℕ → List ℕ → List ℕ
 writtenBook s mask start o = pick (writable s start o) (over (bookWithin (plantOf s) mask (among start)) o) o

@@ -1,6 +1,8 @@
 // Writing: the bytes of a book, and the list of dropped states.
+use format::plant::book_long;
 use format::word::number;
-use rows::is_lost;
+use rows::lost_in;
+use rows::staged;
 use solve::solve;
 ghost use mathlib.Core.Path.{_≡_};
 ghost use mathlib.Core.List.{List, _++_};
@@ -36,7 +38,7 @@ fn put_all(numbers: &[u16], from: usize, out: &mut [u8])
     }
 }
 
-// The header: eight numbers.
+// The header: eight numbers, the last the length by the plant's sort.
 fn head(plant: &[u8], mask: u32, kept: u16, out: &mut [u8])
     requires accepted { ⌜ plantFault (now plant) ≡ 0 ⌝ }
     requires room { ⌜ 16 ≤ length (now out) ⌝ }
@@ -48,7 +50,7 @@ fn head(plant: &[u8], mask: u32, kept: u16, out: &mut [u8])
     let goals = number(plant, 2);
     let low = (mask % 65536) as u16;
     let high = (mask / 65536) as u16;
-    let long = 16 + 4 * (states * goals);
+    let long = book_long(plant) as u16;
     let numbers = [states, moves, goals, kept, low, high, 16, long];
     put_all(&numbers, 0, out);
 }
@@ -61,18 +63,19 @@ pub fn book(plant: &[u8], mask: u32, start: &[u16], out: &mut [u8]) -> u32
     ensures bytes { λ _. ⌜ now (out .exit) ≡
         writtenBook (now (plant .entry)) mask (now (start .entry)) (now (out .entry)) ⌝ }
 {
-    let count = 2 * ((number(plant, 0) as usize) * (number(plant, 2) as usize));
-    if out.len() < 16 + 2 * count {
+    let long = book_long(plant);
+    if out.len() < long {
         return 0;
     }
-    let mut entries = [0u16; 16384];
-    let kept = solve(plant, mask, start, &mut entries);
+    let mut rows = [0u16; 17408];
+    let kept = solve(plant, mask, start, &mut rows);
     if kept == 65535 {
         return 0;
     }
     head(plant, mask, kept as u16, out);
-    put_all(&entries[..count], 16, out);
-    (16 + 2 * count) as u32
+    let count = (long - 16) / 2;
+    put_all(&rows[..count], 16, out);
+    long as u32
 }
 
 // Lists the states kept in one book and lost in another, rising; returns how many. Where the drop buffer has no room
@@ -86,10 +89,13 @@ pub fn dropped(before: &[u8], after: &[u8], drops: &mut [u8]) -> u32
     if drops.len() < 2 * (states as usize) {
         return 0;
     }
+    let stages_before = staged(before);
+    let stages_after = staged(after);
     let mut state: u16 = 0;
     let mut at: usize = 0;
     while state < states {
-        if !is_lost(before, state as u32) & is_lost(after, state as u32) {
+        let was_lost = lost_in(before, stages_before, state as u32);
+        if !was_lost & lost_in(after, stages_after, state as u32) {
             put(drops, at, state);
             at += 2;
         }

@@ -14,25 +14,33 @@
 //! how many times as long a preview takes as withdraw, return as make, list as union, and singles as list. After all
 //! families stands how many times as long return takes as make: the geometric mean over all families and sizes.
 //!
-//! At the end stand consult and moves for the longest plant: consult in a state that serves no goal, and in one that
+//! For each family stand then the plants that must settle, with the most states: with all states settled, with every
+//! other and with most; make and withdraw, and how many times as long as for the plant as it was they take (`to plain`).
+//!
+//! After all families stand consult and moves for the longest plant: consult in a state that serves no goal, and in one that
 //! serves all of them (`passing`); `check`, a make that is refused for want of room, so that it checks the plant and no
 //! more; moves in the state that serves all goals, which has one arrow, and in the busiest state there can be; and how
 //! many times as long as the first consult each solver takes for these.
 //!
-//! The last line is one make of a plant that takes long to make, for the library and the worklist solver.
+//! At the end stand plants that are slow to make, without settling and with it: one make each, by the first solver and
+//! the worklist solver.
 
 use std::hint::black_box;
 use std::mem::swap;
 
 use planbook::calls::{mask_bytes, Calls};
-use planbook::plants::{self, Model, FAMILIES};
-use planbook::second::format::{number, together};
+use planbook::plants::{self, Family, Model, Random, FAMILIES, WAYS_TO_SETTLE};
+use planbook::second::format::{number, together, BookView};
 use planbook::second::{Fast, Plain};
 
 const SIZES: [u16; 5] = [64, 128, 256, 512, 1024];
 const CALLS: [&str; 9] = ["make", "withdraw", "preview", "remake", "return", "list", "singles", "union", "consult"];
+const SETTLED_CALLS: [&str; 2] = ["make", "withdraw"];
 const LOOKUPS: [&str; 5] = ["consult", "passing", "check", "moves", "busiest"];
 const SEED: u64 = 1;
+
+/// How many stages the slow plants have, the states of their tails and of their paths, and goals.
+const SLOW: [[u16; 4]; 3] = [[510, 512, 0, 1], [510, 512, 0, 8], [128, 128, 128, 8]];
 
 /// Runs of one call go on until they took so long in all, in nanoseconds, but are at least three.
 const ENOUGH: u64 = 30_000_000;
@@ -61,6 +69,7 @@ fn main() {
         for ratio in [[2, 1], [4, 0], [5, 7], [6, 5]] {
             print_ratio(family.name(), &CALLS, ratio, most);
         }
+        print_settled(&planners, family, most);
         all.extend(sizes);
     }
     print_mean_ratio([4, 0], &all);
@@ -71,18 +80,52 @@ fn main() {
     for call in 1..LOOKUPS.len() {
         print_ratio("longest", &LOOKUPS, [call, 0], &figures);
     }
-    for planner in planners.iter().filter(|planner| planner.name() != Plain.name()) {
-        println!("gates: one make takes {} {:.4} s", planner.name(), make_once(*planner, &plants::gates()));
+    print_slow(&planners);
+}
+
+/// The plants of a family that must settle, with the most states, beside the one that need not.
+fn print_settled(planners: &[&dyn Calls], family: Family, plain: &[Figures<{ CALLS.len() }>]) {
+    for way in WAYS_TO_SETTLE {
+        eprintln!("{}, {}", family.name(), way.name());
+        let model = way.of(family.build(SIZES[SIZES.len() - 1], SEED), &mut Random::new(SEED));
+        let figures: Vec<_> = planners.iter().map(|planner| measure_settled(*planner, &model)).collect();
+        println!("{}, {}, stages {}", family.name(), way.name(), latest_stage(&model));
+        print_times(family.name(), &model, &SETTLED_CALLS, &figures);
+        for (call, name) in SETTLED_CALLS.iter().enumerate() {
+            let ratios = figures.iter().zip(plain).map(|(settled, plain)| settled.times[call] / plain.times[call]);
+            print_line(family.name(), "to plain", name, ratios);
+        }
     }
 }
 
-/// The CPU time of one make, in seconds.
-fn make_once(planner: &dyn Calls, model: &Model) -> f64 {
-    let plant = model.bytes();
-    let mut book = vec![0; 16 + 4 * model.labels.len() * usize::from(model.goals)];
-    let start = cpu_time();
-    accepted(planner.make(&plant, model.every_move(), &mut book).number);
-    (cpu_time() - start) as f64 / 1e9
+/// How many stages the book of a plant has, with all moves in service.
+fn latest_stage(model: &Model) -> u16 {
+    let mut book = vec![0; model.book_length()];
+    accepted(Fast.make(&model.bytes(), model.every_move(), &mut book).number);
+    let rows = BookView::read(&book, None).expect("a book that was made");
+    let kept = (0..rows.states).filter(|&state| rows.is_kept(state));
+    kept.map(|state| rows.stage(state)).max().unwrap_or(0)
+}
+
+/// The slow plants, one make each.
+fn print_slow(planners: &[&dyn Calls]) {
+    print_once(planners, "gates", &plants::gates());
+    for [stages, tail, path, goals] in SLOW {
+        let name = format!("slow, {stages} stages, tail {tail}, path {path}, {goals} goals");
+        print_once(planners, &name, &plants::slow_stages(stages, tail, path, goals));
+    }
+}
+
+/// How long one make takes, in seconds.
+fn print_once(planners: &[&dyn Calls], name: &str, model: &Model) {
+    let mut book = vec![0; model.book_length()];
+    print!("{name}, {} states:", model.labels.len());
+    for planner in [planners[0], &Fast] {
+        let start = cpu_time();
+        accepted(planner.make(&model.bytes(), model.every_move(), &mut book).number);
+        print!(" {} {:.4} s", planner.name(), (cpu_time() - start) as f64 / 1e9);
+    }
+    println!();
 }
 
 /// What is found out of a planner on a plant, call by call.
@@ -96,9 +139,8 @@ struct Figures<const N: usize> {
 fn measure(planner: &dyn Calls, model: &Model) -> Figures<{ CALLS.len() }> {
     let plant = model.bytes();
     let (states, goals) = (model.labels.len(), usize::from(model.goals));
-    let length = 16 + 4 * states * goals;
-    let [mut book, mut out, mut again] = [(); 3].map(|()| vec![0; length]);
-    let mut drops = vec![0; 2 * states];
+    let [mut book, mut out, mut again] = [(); 3].map(|()| vec![0; model.book_length()]);
+    let mut drops = vec![0; model.list_length()];
     let [every_move, highest] = [model.every_move(), model.highest_move()];
 
     let make = least(|| accepted(planner.make(&plant, every_move, &mut book).number));
@@ -119,6 +161,16 @@ fn measure(planner: &dyn Calls, model: &Model) -> Figures<{ CALLS.len() }> {
         times: [make, withdraw, preview, remake, back, list, singles, union, consult / (states * goals) as f64],
         kept: [before, after, after, after, number(&again, 6), rest, rest, rest, before],
     }
+}
+
+fn measure_settled(planner: &dyn Calls, model: &Model) -> Figures<{ SETTLED_CALLS.len() }> {
+    let plant = model.bytes();
+    let [mut book, mut out] = [(); 2].map(|()| vec![0; model.book_length()]);
+    let mut drops = vec![0; model.list_length()];
+    let make = least(|| accepted(planner.make(&plant, model.every_move(), &mut book).number));
+    let highest = model.highest_move();
+    let withdraw = least(|| accepted(planner.withdraw(&plant, &book, highest, &mut out, &mut drops).number));
+    Figures { times: [make, withdraw], kept: [&book, &out].map(|book| number(book, 6)) }
 }
 
 /// The upper half of the moves, withdrawn by a list of 16 masks, by single withdrawals in turn, and by one of all; and
@@ -147,7 +199,7 @@ fn measure_lists(planner: &dyn Calls, model: &Model, book: &[u8]) -> ([f64; 3], 
 fn measure_lookups(planner: &dyn Calls, model: &Model) -> Figures<{ LOOKUPS.len() }> {
     let plant = model.bytes();
     let (last, goal) = (model.labels.len() as u32 - 1, u32::from(model.goals) - 1);
-    let mut book = vec![0; 16 + 4 * model.labels.len() * usize::from(model.goals)];
+    let mut book = vec![0; model.book_length()];
     accepted(planner.make(&plant, model.every_move(), &mut book).number);
     let consult = |state| least(|| accepted(black_box(planner.consult(&book, state, goal)).number));
     let moves = |state| least(|| accepted(black_box(planner.moves(&plant, &book, state, goal)).number));

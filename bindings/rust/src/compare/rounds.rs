@@ -1,9 +1,10 @@
-//! What is compared: exhaustive rounds on strip plant P, and random rounds that a seed fixes.
+//! What is compared: exhaustive rounds on strip plant P and on a small plant that must settle, and random rounds that a
+//! seed fixes.
 
 use super::{in_service, Comparison};
 use crate::calls::mask_bytes;
 use crate::plants::{self, bytes_of, Model, Random, FAMILIES};
-use crate::second::format::{read_masks, together};
+use crate::second::format::{number, read_masks, together};
 use crate::sys::{Answer, LONGEST_BOOK, LONGEST_LIST};
 use lists::{any_list, masks_in_turn};
 use returns::moves_back;
@@ -11,16 +12,18 @@ use returns::moves_back;
 mod faults;
 mod lists;
 mod returns;
+mod stages;
 
 /// A random round: some calls on inputs that come from the numbers given.
 pub type Round = fn(&mut Comparison, &mut Random);
 
 /// The random rounds, with their names.
-pub const RANDOM_ROUNDS: [(&str, Round); 9] = [
+pub const RANDOM_ROUNDS: [(&str, Round); 10] = [
     ("lists of calls", list_of_calls),
     ("lists of withdrawals", lists::lists_of_withdrawals),
     ("returns", returns::returns),
     ("good moves", good_moves),
+    ("stages", stages::stages),
     ("invented books", invented_book),
     ("damaged plants", damaged_plant),
     ("damaged books", damaged_book),
@@ -29,7 +32,7 @@ pub const RANDOM_ROUNDS: [(&str, Round); 9] = [
 ];
 
 /// The rounds that leave nothing to chance.
-pub const EXHAUSTIVE_ROUNDS: [fn(&mut Comparison); 12] = [
+pub const EXHAUSTIVE_ROUNDS: [fn(&mut Comparison); 14] = [
     single_bytes,
     other_lengths,
     every_mask,
@@ -41,6 +44,8 @@ pub const EXHAUSTIVE_ROUNDS: [fn(&mut Comparison); 12] = [
     returns::every_round_trip,
     returns::every_combination_of_refusals,
     returns::longest,
+    stages::every_stage,
+    stages::every_other_sort,
     largest,
 ];
 
@@ -55,24 +60,28 @@ pub fn run(comparison: &mut Comparison, round: Round, seed: u64, calls: u64) -> 
     rounds
 }
 
-/// A plant of any size or family.
+/// A plant of any size or family, of either sort.
 fn any_plant(random: &mut Random) -> Model {
-    if random.once_in(8) {
+    let model = if random.once_in(8) {
         let states = random.from_to(1, 160) as u16;
         FAMILIES[random.below(FAMILIES.len())].build(states, random.bits())
     } else {
         plants::any_size(random)
+    };
+    plants::either_sort(model, random)
+}
+
+/// A tiny plant of either sort.
+fn tiny_plant(random: &mut Random) -> Model {
+    match random.once_in(2) {
+        true => plants::tiny(random),
+        false => plants::tiny_settled(random),
     }
 }
 
-/// How long the model's books are.
-fn book_length(model: &Model) -> usize {
-    16 + 4 * model.labels.len() * usize::from(model.goals)
-}
-
-/// How long the buffer for a list of states must be.
-fn list_length(model: &Model) -> usize {
-    2 * model.labels.len()
+/// How long the model's books are, and the list of all its states.
+fn lengths_of(model: &Model) -> [usize; 2] {
+    [model.book_length(), model.list_length()]
 }
 
 /// Moves to have in service: mostly many of them.
@@ -181,7 +190,7 @@ fn list_of_calls(comparison: &mut Comparison, random: &mut Random) {
     let model = any_plant(random);
     let plant = model.bytes();
     let in_service = many_moves(&model, random);
-    let (_, book) = comparison.make(&plant, in_service, book_length(&model));
+    let (_, book) = comparison.make(&plant, in_service, model.book_length());
     let mut standing = Standing { model, plant, book, in_service, last: None };
     for _ in 0..random.from_to(0, 12) {
         match random.below(10) {
@@ -217,9 +226,9 @@ struct Withdrawal {
 impl Standing {
     fn make(&mut self, comparison: &mut Comparison, random: &mut Random) {
         let mask = or_too_high(many_moves(&self.model, random), random);
-        let length = any_length(book_length(&self.model), random);
+        let length = any_length(self.model.book_length(), random);
         let made = comparison.make(&self.plant, mask, length);
-        self.take(made, self.told(mask, [length, list_length(&self.model)]), mask);
+        self.take(made, self.told(mask, [length, self.model.list_length()]), mask);
     }
 
     fn withdraw(&mut self, comparison: &mut Comparison, random: &mut Random) {
@@ -227,7 +236,7 @@ impl Standing {
         let lengths = self.any_lengths(random);
         let withdrawn = comparison.withdraw(&self.plant, &self.book, mask, lengths);
         let cost = comparison.preview(&self.plant, &self.book, mask, lengths[1]);
-        let told = self.told(mask, [book_length(&self.model), lengths[1]]);
+        let told = self.told(mask, [self.model.book_length(), lengths[1]]);
         assert_eq!(cost.number, told, "told from the preview alone");
         self.take_withdrawal(withdrawn, self.told(mask, lengths), mask);
     }
@@ -257,12 +266,12 @@ impl Standing {
 
     /// Lengths of the buffers for a withdrawal or a return.
     fn any_lengths(&self, random: &mut Random) -> [usize; 2] {
-        [book_length(&self.model), list_length(&self.model)].map(|needed| any_length(needed, random))
+        lengths_of(&self.model).map(|needed| any_length(needed, random))
     }
 
     /// The number of a call, told from the moves that it names and the lengths of its buffers.
     fn told(&self, moves: u32, lengths: [usize; 2]) -> u32 {
-        let short = lengths[0] < book_length(&self.model) || lengths[1] < list_length(&self.model);
+        let short = lengths[0] < self.model.book_length() || lengths[1] < self.model.list_length();
         match (moves & !self.model.every_move() != 0, short) {
             (true, _) => 6,
             (false, true) => 7,
@@ -295,7 +304,7 @@ impl Standing {
 fn good_moves(comparison: &mut Comparison, random: &mut Random) {
     let model = any_plant(random);
     let plant = model.bytes();
-    let lengths = [book_length(&model), list_length(&model)];
+    let lengths = lengths_of(&model);
     let (_, mut book) = comparison.make(&plant, many_moves(&model, random), lengths[0]);
     for _ in 0..3 {
         every_goal(comparison, &plant, &book, &model, random.below(1024));
@@ -307,8 +316,8 @@ fn good_moves(comparison: &mut Comparison, random: &mut Random) {
     every_goal(comparison, &plant, &invent_book(&model, random), &model, random.below(1024));
     let (_, book) = comparison.make(&turned(&model).bytes(), many_moves(&model, random), lengths[0]);
     every_goal(comparison, &plant, &book, &model, random.below(1024));
-    let other = plants::tiny(random);
-    let (_, book) = comparison.make(&other.bytes(), other.every_move(), book_length(&other));
+    let other = tiny_plant(random);
+    let (_, book) = comparison.make(&other.bytes(), other.every_move(), other.book_length());
     look_up(comparison, &plant, &book, &model, random);
 }
 
@@ -328,9 +337,14 @@ fn invent_book(model: &Model, random: &mut Random) -> Vec<u8> {
     let waits = [2, 4, 32, 1024][random.below(4)];
     let mut kept = 0;
     let mut rows = Vec::new();
+    let states = model.labels.len() as u16;
+    let stages = [1, 2, 4, 1024][random.below(4)].min(states.into());
     for _ in &model.labels {
         let lost = actions.is_empty() || random.once_in(often);
         kept += u16::from(!lost);
+        if model.settles {
+            rows.push(if lost { u16::MAX } else { random.from_to(1, stages) as u16 });
+        }
         let served = [1, 2, 16, 256][random.below(4)];
         for _ in 0..model.goals {
             if lost {
@@ -341,8 +355,7 @@ fn invent_book(model: &Model, random: &mut Random) -> Vec<u8> {
             }
         }
     }
-    let states = model.labels.len() as u16;
-    let length = book_length(model) as u16;
+    let length = model.book_length() as u16;
     let header = [states, model.moves, model.goals, kept, mask as u16, (mask >> 16) as u16, 16, length];
     bytes_of(header.iter().chain(&rows))
 }
@@ -356,7 +369,7 @@ fn invented_book(comparison: &mut Comparison, random: &mut Random) {
 /// a list of a few withdrawals from the first book, or a return to it.
 pub fn withdrawals_from_invented(comparison: &mut Comparison, model: &Model, random: &mut Random) {
     let plant = model.bytes();
-    let lengths = [book_length(model), list_length(model)];
+    let lengths = lengths_of(model);
     let mut book = invent_book(model, random);
     match random.below(6) {
         0..=1 => {
@@ -382,7 +395,7 @@ pub fn withdrawals_from_invented(comparison: &mut Comparison, model: &Model, ran
 /// there are very many states, the upper half of the moves withdrawn by one list and returned at once.
 pub fn each_move_in_turn(comparison: &mut Comparison, model: &Model) {
     let plant = model.bytes();
-    let lengths = [book_length(model), list_length(model)];
+    let lengths = lengths_of(model);
     let (_, mut book) = comparison.make(&plant, model.every_move(), lengths[0]);
     if model.labels.len() <= 400 {
         let half = model.moves / 2;
@@ -417,17 +430,31 @@ fn damage(bytes: &mut Vec<u8>, random: &mut Random) {
     }
 }
 
+/// One bit of one label changed, or the last number of the header.
+fn change_sort(plant: &mut [u8], random: &mut Random) {
+    if random.once_in(3) {
+        let last = [0, 1, 2, 3, 256, 257][random.below(6)];
+        plant[14..16].copy_from_slice(&u16::to_le_bytes(last));
+    } else {
+        let states = usize::from(number(plant, 0));
+        plant[16 + random.below(2 * states)] ^= 1 << random.below(8);
+    }
+}
+
 /// Plants with some bytes damaged, made of, withdrawn and previewed with, by lists too, returned and looked up with.
 fn damaged_plant(comparison: &mut Comparison, random: &mut Random) {
-    let model = plants::tiny(random);
+    let model = tiny_plant(random);
     let book = invent_book(&model, random);
     for _ in 0..8 {
         let mut plant = model.bytes();
-        damage(&mut plant, random);
+        match random.once_in(3) {
+            true => change_sort(&mut plant, random),
+            false => damage(&mut plant, random),
+        }
         let mask = or_too_high(many_moves(&model, random), random);
         comparison.make(&plant, mask, any_length(book.len(), random));
         let mask = or_too_high(few_moves(&model, random), random);
-        let lengths = [any_length(book.len(), random), list_length(&model)];
+        let lengths = [any_length(book.len(), random), model.list_length()];
         withdraw_and_preview(comparison, &plant, &book, mask, lengths);
         comparison.withdraw_list(&plant, &book, &any_list(&model, random), lengths);
         comparison.return_moves(&plant, &book, mask, lengths);
@@ -437,14 +464,14 @@ fn damaged_plant(comparison: &mut Comparison, random: &mut Random) {
 
 /// Books with some bytes damaged, withdrawn and previewed from, by lists too, returned to and looked up in.
 fn damaged_book(comparison: &mut Comparison, random: &mut Random) {
-    let model = plants::tiny(random);
+    let model = tiny_plant(random);
     let plant = model.bytes();
-    let (_, whole) = comparison.make(&plant, model.every_move(), book_length(&model));
+    let (_, whole) = comparison.make(&plant, model.every_move(), model.book_length());
     for _ in 0..8 {
         let mut book = if random.once_in(2) { whole.clone() } else { invent_book(&model, random) };
         damage(&mut book, random);
         let mask = or_too_high(few_moves(&model, random), random);
-        let lengths = [any_length(whole.len(), random), list_length(&model)];
+        let lengths = [any_length(whole.len(), random), model.list_length()];
         withdraw_and_preview(comparison, &plant, &book, mask, lengths);
         comparison.withdraw_list(&plant, &book, &any_list(&model, random), lengths);
         comparison.return_moves(&plant, &book, mask, lengths);
@@ -461,11 +488,16 @@ fn random_header(comparison: &mut Comparison, random: &mut Random) {
         _ => random.from_to(1, most),
     };
     let (states, moves, goals) = (near(random, 1024), near(random, 32), near(random, 8));
+    // Plant and book are mostly of one sort.
+    let settled = random.once_in(2);
+    let settles = [settled, settled != random.once_in(8)];
     let mut header = |numbers: [usize; 8]| {
         bytes_of(&numbers.map(|number| if random.once_in(40) { random.below(1 << 16) } else { number } as u16))
     };
-    let [plant_length, book_length] = [16 + 2 * states, 16 + 4 * states * goals].map(|length| length % (1 << 16));
-    let mut plant = header([states, moves, goals, 0, 16, plant_length, plant_length, 0]);
+    let stages = if settles[1] { 2 * states } else { 0 };
+    let lengths = [16 + 2 * states, 16 + stages + 4 * states * goals];
+    let [plant_length, book_length] = lengths.map(|length| length % (1 << 16));
+    let mut plant = header([states, moves, goals, 0, 16, plant_length, plant_length, settles[0].into()]);
     let mut book = header([states, moves, goals, 0, 0, 0, 16, book_length]);
     plant.resize(plant_length.max(16), 0);
     book.resize(book_length.max(16), 0xff);
@@ -489,7 +521,7 @@ fn random_header(comparison: &mut Comparison, random: &mut Random) {
 fn buffers(comparison: &mut Comparison, random: &mut Random) {
     let model = any_plant(random);
     let plant = model.bytes();
-    let (needed, listed) = (book_length(&model), list_length(&model));
+    let (needed, listed) = (model.book_length(), model.list_length());
     let made = many_moves(&model, random);
     let withdrawn = few_moves(&model, random);
     let masks = mask_bytes(&[withdrawn, few_moves(&model, random)]);
@@ -512,9 +544,19 @@ fn buffers(comparison: &mut Comparison, random: &mut Random) {
 
 /// Strip plant P with all moves in service.
 fn strip_and_book(comparison: &mut Comparison) -> (Vec<u8>, Vec<u8>) {
-    let plant = plants::strip().bytes();
-    let (_, book) = comparison.make(&plant, 7, 48);
+    with_book(comparison, &plants::strip())
+}
+
+/// A plant's bytes, and its book with all moves in service.
+fn with_book(comparison: &mut Comparison, model: &Model) -> (Vec<u8>, Vec<u8>) {
+    let plant = model.bytes();
+    let (_, book) = comparison.make(&plant, model.every_move(), model.book_length());
     (plant, book)
+}
+
+/// Strip plant P, and a small plant that must settle.
+fn both_sorts() -> [Model; 2] {
+    [plants::strip(), plants::band()]
 }
 
 /// M9's book, which nobody made: M1's with row 1 lost.
@@ -535,91 +577,111 @@ fn with_one_changed(bytes: &[u8]) -> impl Iterator<Item = Vec<u8>> + '_ {
     })
 }
 
-/// Every byte of P, of its book and of a list of masks changed to every other value, in every call.
+/// Every byte of a small plant of either sort, of its book and of a list of masks changed to every other value, in every
+/// call.
 fn single_bytes(comparison: &mut Comparison) {
-    let (plant, book) = strip_and_book(comparison);
-    let (_, without_move_0) = comparison.make(&plant, 6, 48);
-    let masks = mask_bytes(&[2, 4]);
-    for masks in with_one_changed(&masks) {
-        comparison.withdraw_list(&plant, &book, &masks, [48, 8]);
-    }
-    for plant in with_one_changed(&plant) {
-        comparison.make(&plant, 7, 64);
-        withdraw_and_preview(comparison, &plant, &book, 4, [64, 16]);
-        comparison.withdraw_list(&plant, &book, &masks, [64, 16]);
-        comparison.return_moves(&plant, &without_move_0, 1, [64, 16]);
-        for (state, goal) in places(&plants::strip(), 0) {
-            comparison.moves(&plant, &book, state, goal);
+    for model in both_sorts() {
+        let (plant, book) = with_book(comparison, &model);
+        let (lengths, longer) = (lengths_of(&model), lengths_of(&model).map(|length| length + 16));
+        let highest = model.highest_move();
+        let (_, without_move_0) = comparison.make(&plant, model.every_move() & !1, lengths[0]);
+        let masks = mask_bytes(&[2, highest]);
+        for masks in with_one_changed(&masks) {
+            comparison.withdraw_list(&plant, &book, &masks, lengths);
         }
-    }
-    for book in with_one_changed(&book) {
-        withdraw_and_preview(comparison, &plant, &book, 4, [48, 8]);
-        comparison.withdraw_list(&plant, &book, &masks, [48, 8]);
-        comparison.return_moves(&plant, &book, 4, [48, 8]);
-        for state in 0..5 {
-            comparison.row(&book, state);
-            for goal in 0..3 {
-                comparison.consult(&book, state, goal);
+        for plant in with_one_changed(&plant) {
+            comparison.make(&plant, model.every_move(), longer[0]);
+            withdraw_and_preview(comparison, &plant, &book, highest, longer);
+            comparison.withdraw_list(&plant, &book, &masks, longer);
+            comparison.return_moves(&plant, &without_move_0, 1, longer);
+            for (state, goal) in places(&model, 0) {
                 comparison.moves(&plant, &book, state, goal);
             }
+        }
+        for book in with_one_changed(&book) {
+            withdraw_and_preview(comparison, &plant, &book, highest, lengths);
+            comparison.withdraw_list(&plant, &book, &masks, lengths);
+            comparison.return_moves(&plant, &book, highest, lengths);
+            look_everywhere(comparison, &plant, &book, &model);
         }
     }
 }
 
-/// P and its book cut short everywhere, and with bytes added.
+/// Rows, consults and good moves of all states and goals, and of one more each.
+fn look_everywhere(comparison: &mut Comparison, plant: &[u8], book: &[u8], model: &Model) {
+    for state in 0..=model.labels.len() as u32 {
+        comparison.row(book, state);
+        for goal in 0..=model.goals.into() {
+            comparison.consult(book, state, goal);
+            comparison.moves(plant, book, state, goal);
+        }
+    }
+}
+
+/// A small plant of either sort and its book cut short everywhere, and with bytes added.
 fn other_lengths(comparison: &mut Comparison) {
-    let (plant, book) = strip_and_book(comparison);
     let of_length = |bytes: &[u8], length: usize| {
         let mut bytes = bytes.to_vec();
         bytes.resize(length, 0);
         bytes
     };
-    for length in 0..plant.len() + 20 {
-        let plant = of_length(&plant, length);
-        comparison.make(&plant, 7, 48);
-        withdraw_and_preview(comparison, &plant, &book, 4, [48, 8]);
-        comparison.withdraw_list(&plant, &book, &mask_bytes(&[2, 4]), [48, 8]);
-        comparison.return_moves(&plant, &book, 4, [48, 8]);
-        comparison.moves(&plant, &book, 0, 1);
-    }
-    for length in 0..book.len() + 20 {
-        let book = of_length(&book, length);
-        withdraw_and_preview(comparison, &plant, &book, 4, [48, 8]);
-        comparison.withdraw_list(&plant, &book, &mask_bytes(&[2, 4]), [48, 8]);
-        comparison.return_moves(&plant, &book, 4, [48, 8]);
-        comparison.consult(&book, 0, 1);
-        comparison.moves(&plant, &book, 0, 1);
-        comparison.row(&book, 0);
+    for model in both_sorts() {
+        let (plant, book) = with_book(comparison, &model);
+        let (lengths, highest) = (lengths_of(&model), model.highest_move());
+        let masks = mask_bytes(&[2, highest]);
+        for length in 0..plant.len() + 20 {
+            let plant = of_length(&plant, length);
+            comparison.make(&plant, model.every_move(), lengths[0]);
+            withdraw_and_preview(comparison, &plant, &book, highest, lengths);
+            comparison.withdraw_list(&plant, &book, &masks, lengths);
+            comparison.return_moves(&plant, &book, highest, lengths);
+            comparison.moves(&plant, &book, 0, 1);
+        }
+        for length in 0..book.len() + 20 {
+            let book = of_length(&book, length);
+            withdraw_and_preview(comparison, &plant, &book, highest, lengths);
+            comparison.withdraw_list(&plant, &book, &masks, lengths);
+            comparison.return_moves(&plant, &book, highest, lengths);
+            comparison.consult(&book, 0, 1);
+            comparison.moves(&plant, &book, 0, 1);
+            comparison.row(&book, 0);
+        }
     }
 }
 
-/// P with every pair of a mask made and a mask withdrawn, those that name a fourth move included.
+/// A small plant of either sort with every pair of a mask made and a mask withdrawn, those that name a move too many
+/// included.
 fn every_mask(comparison: &mut Comparison) {
-    let plant = plants::strip().bytes();
-    for made in 0..16 {
-        let (_, book) = comparison.make(&plant, made, 48);
-        for withdrawn in 0..16 {
-            let (_, rest) = withdraw_and_preview(comparison, &plant, &book, withdrawn, [48, 8]);
-            for state in 0..4 {
-                comparison.row(&rest, state);
+    for model in both_sorts() {
+        let plant = model.bytes();
+        for made in 0..4 * model.highest_move() {
+            let (_, book) = comparison.make(&plant, made, model.book_length());
+            for withdrawn in 0..4 * model.highest_move() {
+                let (_, rest) = withdraw_and_preview(comparison, &plant, &book, withdrawn, lengths_of(&model));
+                for state in 0..model.labels.len() as u32 {
+                    comparison.row(&rest, state);
+                }
+                every_goal(comparison, &plant, &rest, &model, 0);
             }
-            every_goal(comparison, &plant, &rest, &plants::strip(), 0);
         }
     }
 }
 
-/// P with buffers of every length up to some bytes more than is needed.
+/// A small plant of either sort with buffers of every length up to some bytes more than is needed.
 fn every_buffer(comparison: &mut Comparison) {
-    let (plant, book) = strip_and_book(comparison);
-    let (_, without_move_0) = comparison.make(&plant, 6, 48);
-    for length in 0..56 {
-        comparison.make(&plant, 7, length);
-        for list in 0..16 {
-            comparison.withdraw(&plant, &book, 1, [length, list]);
-            comparison.withdraw_list(&plant, &book, &mask_bytes(&[4, 1]), [length, list]);
-            comparison.return_moves(&plant, &without_move_0, 1, [length, list]);
+    for model in both_sorts() {
+        let (plant, book) = with_book(comparison, &model);
+        let masks = mask_bytes(&[model.highest_move(), 1]);
+        let (_, without_move_0) = comparison.make(&plant, model.every_move() & !1, model.book_length());
+        for length in 0..book.len() + 8 {
+            comparison.make(&plant, model.every_move(), length);
+            for list in 0..16 {
+                comparison.withdraw(&plant, &book, 1, [length, list]);
+                comparison.withdraw_list(&plant, &book, &masks, [length, list]);
+                comparison.return_moves(&plant, &without_move_0, 1, [length, list]);
+            }
+            comparison.preview(&plant, &book, 1, length);
         }
-        comparison.preview(&plant, &book, 1, length);
     }
 }
 
@@ -636,17 +698,25 @@ fn largest(comparison: &mut Comparison) {
         (1, 0, 1, 0),
         (1, 1, 0, 0),
     ] {
-        let plant = filled(states, moves, goals, arrows).bytes();
-        let mask = u32::MAX >> (32 - moves.clamp(1, 32));
-        let (_, book) = comparison.make(&plant, mask, 1 << 16);
-        let (_, rest) = withdraw_and_preview(comparison, &plant, &book, mask & 1, [1 << 16, 1 << 12]);
-        comparison.return_moves(&plant, &rest, mask & 1, [1 << 16, 1 << 12]);
-        let masks: Vec<u32> = (0..16).map(|action| mask & 1 << action).collect();
-        comparison.withdraw_list(&plant, &book, &mask_bytes(&masks), [1 << 16, 1 << 12]);
-        comparison.consult(&book, 1023, 7);
-        comparison.moves(&plant, &book, 1023, 7);
-        comparison.row(&book, 1023);
+        let model = filled(states, moves, goals, arrows);
+        let all_settled = model.clone().settled(|_| true);
+        let half_settled = model.clone().settled(|state| state < 512);
+        for model in [model, all_settled, half_settled] {
+            every_call_once(comparison, &model.bytes(), u32::MAX >> (32 - moves.clamp(1, 32)));
+        }
     }
+}
+
+/// Every call on a large plant, with the moves of a mask in service.
+fn every_call_once(comparison: &mut Comparison, plant: &[u8], mask: u32) {
+    let (_, book) = comparison.make(plant, mask, 1 << 16);
+    let (_, rest) = withdraw_and_preview(comparison, plant, &book, mask & 1, [1 << 16, 1 << 12]);
+    comparison.return_moves(plant, &rest, mask & 1, [1 << 16, 1 << 12]);
+    let masks: Vec<u32> = (0..16).map(|action| mask & 1 << action).collect();
+    comparison.withdraw_list(plant, &book, &mask_bytes(&masks), [1 << 16, 1 << 12]);
+    comparison.consult(&book, 1023, 7);
+    comparison.moves(plant, &book, 1023, 7);
+    comparison.row(&book, 1023);
 }
 
 /// A plant with exactly these counts: every state allowed and in every goal, and arrows spread evenly.
@@ -656,5 +726,6 @@ fn filled(states: u16, moves: u16, goals: u16, arrows: u16) -> Model {
         let (from, lap) = (number % states, number / states);
         [from, lap % moves, (from + lap / moves + 1) % states]
     };
-    Model { moves, goals, labels: vec![label; states.into()], arrows: (0..arrows).map(arrow).collect() }
+    let labels = vec![label; states.into()];
+    Model { moves, goals, settles: false, labels, arrows: (0..arrows).map(arrow).collect() }
 }

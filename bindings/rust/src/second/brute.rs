@@ -1,11 +1,17 @@
 //! The brute solver, for tiny plants: it tries strategies and replies one by one.
 //!
 //! That a state is kept is shown by a strategy whose memory is the goal sought: the graph of all its runs has no dead
-//! end, no unusable state, and no cycle that misses a goal. That a state is lost is shown by a reply of the opponent, an
-//! arrow for each state and move, against which no choice of moves whatever gives a good run: with the replies fixed a
-//! run is a path, and no cycle that can be reached in usable states has all goals. A wait is the least time that a
-//! choice of moves ensures, and the greatest that a reply does. In each case both sides are tried to the end, and it is
-//! a panic if a state is on both or on neither. So nothing rests on a theorem about fixed points or about memory.
+//! end, no unusable state, and no cycle that misses a goal or, if runs must settle, has a state that is not settled. That
+//! a state is lost is shown by a reply of the opponent, an arrow for each state and move, against which no choice of
+//! moves whatever gives a good run: with the replies fixed a run is a path, and no cycle that can be reached in usable
+//! states has all goals and, if runs must settle, settled states alone. A wait is the least time that a choice of moves
+//! ensures, and the greatest that a reply does. In each case both sides are tried to the end, and it is a panic if a
+//! state is on both or on neither. So nothing rests on a theorem about fixed points or about memory.
+//!
+//! Stages are looked for one after another in the same way, with the words of request (ix): the strategy may pass
+//! settled states alone, and a run is over where it comes to a state, settled or not, that has a move wholly into the
+//! stages before. From there on no more is asked than not to get stuck and to stay in usable states, which the
+//! strategies of those stages do. It is a panic if a kept state has no stage, or a lost one has.
 
 use super::format::{in_mask, Plant};
 use super::{Solve, Table};
@@ -17,37 +23,101 @@ pub struct Brute;
 /// The moves that a state has: the move and where its arrows end.
 type Moves = Vec<(u16, Vec<usize>)>;
 
-/// A tiny game: the usable states, and for each state the moves available there.
+/// A tiny game: for each state the moves available there.
 struct Game<'a> {
     plant: &'a Plant,
-    usable: Vec<bool>,
     moves: Vec<Moves>,
+}
+
+/// What is asked of every run: to pass these states alone until it is over, if it ever is, and otherwise to meet every
+/// goal again and again and to stay in calm states from some moment on.
+struct Task {
+    passed: Vec<bool>,
+    over: Vec<bool>,
+    calm: Vec<bool>,
+}
+
+/// The states of a stage and of all earlier ones, of the earlier ones alone, and those that can leave.
+struct Stage {
+    through: Vec<bool>,
+    earlier: Vec<bool>,
+    leaves: Vec<bool>,
 }
 
 impl Solve for Brute {
     const NAME: &'static str = "brute";
 
     fn solve(plant: &Plant, mask: u32, within: &[bool]) -> Table {
-        let usable = (0..plant.states).map(|state| plant.is_allowed(state) && within[state]).collect();
-        let mut game = Game { plant, usable, moves: moves_in_service(plant, mask) };
-        let kept = kept_states(&game);
-        // From here on strategies that never leave the kept states are all that counts.
-        for (moves, &kept_here) in game.moves.iter_mut().zip(&kept) {
-            moves.retain(|(_, ends)| kept_here && ends.iter().all(|&end| kept[end]));
-        }
+        let states = 0..plant.states;
+        let game = Game { plant, moves: moves_in_service(plant, mask) };
+        let passed: Vec<bool> = states.clone().map(|state| plant.is_allowed(state) && within[state]).collect();
+        let calm: Vec<bool> = states.map(|state| !plant.settles || plant.is_settled(state)).collect();
+        let none = vec![false; plant.states];
+        let task = Task { passed, over: none.clone(), calm };
+        let kept = winners(&game, &task);
         let mut table = Table::lost(plant);
-        for goal in 0..plant.goals {
-            let waits = least_waits(&game, &kept, goal);
-            for state in (0..plant.states).filter(|&state| kept[state]) {
-                let wait = waits[state].expect("a kept state meets each goal");
-                let smaller = |end: &usize| waits[*end].is_some_and(|other| other < wait);
-                let good = |ends: &[usize]| wait == 0 || ends.iter().all(smaller);
-                let (action, _) = game.moves[state].iter().find(|(_, ends)| good(ends)).expect("a move that is listed");
-                table.waits[state * plant.goals + goal] = wait;
-                table.moves[state * plant.goals + goal] = *action;
+        if !plant.settles {
+            write_rows(&game, &Stage { through: kept, earlier: none.clone(), leaves: none }, &mut table);
+            return table;
+        }
+        let mut earlier = none;
+        for number in 1.. {
+            let stage = next_stage(&game, &task, earlier);
+            if stage.through == stage.earlier {
+                assert_eq!(stage.through, kept, "a state is kept exactly if it has a stage");
+                break;
             }
+            for state in (0..plant.states).filter(|&state| stage.is_own(state)) {
+                table.stages[state] = number;
+            }
+            write_rows(&game, &stage, &mut table);
+            earlier = stage.through;
         }
         table
+    }
+}
+
+impl Stage {
+    /// Whether the state is of this stage and of no earlier one.
+    fn is_own(&self, state: usize) -> bool {
+        self.through[state] && !self.earlier[state]
+    }
+}
+
+/// The stage after these states: those from which every run can be made to pass usable settled states alone and to meet
+/// every goal again and again or come to a usable state that has a move wholly into these.
+fn next_stage(game: &Game, task: &Task, earlier: Vec<bool>) -> Stage {
+    let leads_earlier = |(_, ends): &(u16, Vec<usize>)| ends.iter().all(|&end| earlier[end]);
+    let leaves: Vec<bool> =
+        (0..earlier.len()).map(|state| task.passed[state] && game.moves[state].iter().any(leads_earlier)).collect();
+    let settled = task.passed.iter().zip(&task.calm).map(|(&passed, &calm)| passed && calm).collect();
+    let through = winners(game, &Task { passed: settled, over: leaves.clone(), calm: task.calm.clone() });
+    assert!((0..earlier.len()).all(|state| through[state] || !earlier[state]), "stages grow");
+    Stage { through, earlier, leaves }
+}
+
+/// Writes the waits and moves of the states that are of this stage.
+fn write_rows(game: &Game, stage: &Stage, table: &mut Table) {
+    let Stage { through, earlier, leaves } = stage;
+    let goals = game.plant.goals;
+    // From here on strategies that never come to a later stage, or to a lost state, are all that counts.
+    let mut moves = game.moves.clone();
+    for (moves, &here) in moves.iter_mut().zip(through) {
+        moves.retain(|(_, ends)| here && ends.iter().all(|&end| through[end]));
+    }
+    let game = Game { moves, ..*game };
+    for goal in 0..goals {
+        let there = |state: usize| game.plant.in_goal(state, goal) || earlier[state] || leaves[state];
+        let waits = least_waits(&game, through, &there);
+        for state in (0..through.len()).filter(|&state| stage.is_own(state)) {
+            let wait = waits[state].expect("a kept state meets each goal");
+            let nearer = |end: usize| wait == 0 || waits[end].is_some_and(|other| other < wait);
+            let good = |end: usize| earlier[end] || !leaves[state] && nearer(end);
+            let mut listed = game.moves[state].iter().filter(|(_, ends)| ends.iter().all(|&end| good(end)));
+            let (action, _) = listed.next().expect("a move that is listed");
+            table.waits[state * goals + goal] = wait;
+            table.moves[state * goals + goal] = *action;
+        }
     }
 }
 
@@ -84,21 +154,21 @@ fn every_pick(bounds: &[usize], mut visit: impl FnMut(&[usize])) {
     }
 }
 
-/// The states from which some strategy wins; the others are those against which some reply always works.
-fn kept_states(game: &Game) -> Vec<bool> {
+/// The states from which some strategy does what is asked; the others are those against which some reply always works.
+fn winners(game: &Game, task: &Task) -> Vec<bool> {
     let (states, goals) = (game.plant.states, game.plant.goals);
     let mut won = vec![false; states];
     let counts: Vec<usize> = (0..states * goals).map(|node| game.moves[node / goals].len()).collect();
     every_pick(&counts, |picks| {
         for (state, won) in won.iter_mut().enumerate() {
-            *won = *won || wins(game, picks, state);
+            *won = *won || wins(game, task, picks, state);
         }
     });
     let mut beaten = vec![false; states];
     every_pick(&fan_sizes(game), |replies| {
         let next = replied(game, replies);
         for (state, beaten) in beaten.iter_mut().enumerate() {
-            *beaten = *beaten || !has_good_run(game, &next, state);
+            *beaten = *beaten || !has_good_run(game, task, &next, state);
         }
     });
     for state in 0..states {
@@ -119,12 +189,12 @@ fn replied(game: &Game, replies: &[usize]) -> Vec<Vec<usize>> {
     game.moves.iter().map(|moves| moves.iter().map(|(_, ends)| end(ends)).collect()).collect()
 }
 
-/// Whether the strategy that makes the move `picks[state * goals + sought]` wins from the state, goal 0 sought first.
-/// The goal sought passes to the next when the run is in it.
-fn wins(game: &Game, picks: &[usize], state: usize) -> bool {
+/// Whether the strategy that makes the move `picks[state * goals + sought]` does what is asked from the state, goal 0
+/// sought first. The goal sought passes to the next when the run is in it.
+fn wins(game: &Game, task: &Task, picks: &[usize], state: usize) -> bool {
     let goals = game.plant.goals;
     let mut next = vec![Vec::new(); game.plant.states * goals];
-    for (node, next) in next.iter_mut().enumerate() {
+    for (node, next) in next.iter_mut().enumerate().filter(|(node, _)| !task.over[node / goals]) {
         let (state, sought) = (node / goals, node % goals);
         let sought = if game.plant.in_goal(state, sought) { (sought + 1) % goals } else { sought };
         if let Some((_, ends)) = game.moves[state].get(picks[node]) {
@@ -133,31 +203,35 @@ fn wins(game: &Game, picks: &[usize], state: usize) -> bool {
     }
     let reached = reach(&next, state * goals, |_| true);
     let nodes = || (0..next.len()).filter(|&node| reached[node]);
-    let sound = nodes().all(|node| game.usable[node / goals] && !next[node].is_empty());
-    sound
-        && (0..goals).all(|goal| {
-            let missing = |node: usize| !game.plant.in_goal(node / goals, goal);
-            nodes().filter(|&node| missing(node)).all(|node| !on_cycle(&next, node, missing))
-        })
+    let sound = |node: usize| task.over[node / goals] || task.passed[node / goals] && !next[node].is_empty();
+    let turns = |pass: &dyn Fn(usize) -> bool| nodes().any(|node| on_cycle(&next, node, pass));
+    let restless = || nodes().any(|node| !task.calm[node / goals] && on_cycle(&next, node, |_| true));
+    nodes().all(sound) && !(0..goals).any(|goal| turns(&|node| !game.plant.in_goal(node / goals, goal))) && !restless()
 }
 
-/// Whether some endless path from the state stays in usable states and meets every goal again and again: whether a
-/// cycle that can be reached there has all goals.
-fn has_good_run(game: &Game, next: &[Vec<usize>], state: usize) -> bool {
-    let usable = |state: usize| game.usable[state];
-    let from: Vec<Vec<bool>> = (0..next.len()).map(|state| reach(next, state, usable)).collect();
-    let on_common_cycle = |a: usize, b: usize| from[a][b] && from[b][a];
-    (0..next.len()).filter(|&turn| from[state][turn] && on_cycle(next, turn, usable)).any(|turn| {
+/// Whether some path from the state does what is asked: whether it can come, by states that may be passed, to where it
+/// is over, or to a cycle of calm ones that has all goals.
+fn has_good_run(game: &Game, task: &Task, next: &[Vec<usize>], state: usize) -> bool {
+    let states = || 0..next.len();
+    let passed = |state: usize| task.passed[state] && !task.over[state];
+    let calm = |state: usize| passed(state) && task.calm[state];
+    let reached = reach(next, state, passed);
+    let comes_to = |end: usize| end == state || states().any(|node| reached[node] && next[node].contains(&end));
+    if states().any(|end| task.over[end] && comes_to(end)) {
+        return true;
+    }
+    let around: Vec<Vec<bool>> = states().map(|state| reach(next, state, calm)).collect();
+    let on_common_cycle = |a: usize, b: usize| around[a][b] && around[b][a];
+    states().filter(|&turn| reached[turn] && on_cycle(next, turn, calm)).any(|turn| {
         (0..game.plant.goals)
-            .all(|goal| (0..next.len()).any(|other| on_common_cycle(turn, other) && game.plant.in_goal(other, goal)))
+            .all(|goal| states().any(|other| on_common_cycle(turn, other) && game.plant.in_goal(other, goal)))
     })
 }
 
-/// For each kept state the least number of moves within which the goal can be forced, by both sides: the least that a
-/// choice of a move for each state ensures, and the greatest that replies do.
-fn least_waits(game: &Game, kept: &[bool], goal: usize) -> Vec<Option<u16>> {
+/// For each kept state the least number of moves within which one that is `there` can be forced, by both sides: the
+/// least that a choice of a move for each state ensures, and the greatest that replies do.
+fn least_waits(game: &Game, kept: &[bool], there: &impl Fn(usize) -> bool) -> Vec<Option<u16>> {
     let states = game.plant.states;
-    let there = |state: usize| game.plant.in_goal(state, goal);
     let kept_states = || (0..states).filter(|&state| kept[state]);
 
     let counts: Vec<usize> = game.moves.iter().map(Vec::len).collect();
@@ -166,7 +240,7 @@ fn least_waits(game: &Game, kept: &[bool], goal: usize) -> Vec<Option<u16>> {
         let picked = |(moves, &pick): (&Moves, &usize)| moves.get(pick).map_or(Vec::new(), |(_, ends)| ends.clone());
         let next: Vec<Vec<usize>> = game.moves.iter().zip(picks).map(picked).collect();
         for state in kept_states() {
-            ensured[state] = ensured[state].into_iter().chain(slowest(&next, &there, state, states)).min();
+            ensured[state] = ensured[state].into_iter().chain(slowest(&next, there, state, states)).min();
         }
     });
 
@@ -174,12 +248,12 @@ fn least_waits(game: &Game, kept: &[bool], goal: usize) -> Vec<Option<u16>> {
     every_pick(&fan_sizes(game), |replies| {
         let next = replied(game, replies);
         for state in kept_states() {
-            let time = quickest(&next, &there, state, states);
+            let time = quickest(&next, there, state, states);
             delayed[state] = delayed[state].zip(time).map(|(before, now)| now.max(before));
         }
     });
     for state in kept_states() {
-        assert_eq!(ensured[state], delayed[state], "the wait of state {state} for goal {goal}, from both sides");
+        assert_eq!(ensured[state], delayed[state], "the wait of state {state}, from both sides");
     }
     ensured
 }

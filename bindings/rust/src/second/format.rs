@@ -2,10 +2,11 @@
 //! a book is laid out.
 
 use super::{require, Table};
+use crate::plants::SETTLED;
 use crate::sys::LONGEST_MASKS;
 use crate::Refusal;
 
-/// Marks both places of every entry of a lost state.
+/// Marks both places of every entry of a lost state, and its stage.
 pub const LOST: u16 = u16::MAX;
 
 /// The largest wait of a book.
@@ -31,6 +32,8 @@ pub struct Plant {
     pub moves: usize,
     /// N, the number of goals.
     pub goals: usize,
+    /// Whether runs must settle.
+    pub settles: bool,
     /// A label for each state.
     pub labels: Vec<u16>,
     /// The arrows, by from, move and to.
@@ -44,10 +47,12 @@ impl Plant {
         let [states, moves, goals, count, labels_at, arrows_at, length, last] = header.map(usize::from);
         let counts = in_range(states, moves, goals) && count <= 8192;
         let places = labels_at == 16 && arrows_at == 16 + 2 * states && length == 16 + 2 * states + 6 * count;
-        require(counts && places && last == 0 && bytes.len() == length, Refusal::PlantHeader)?;
+        require(counts && places && last <= 1 && bytes.len() == length, Refusal::PlantHeader)?;
 
         let labels: Vec<u16> = numbers(&bytes[labels_at..arrows_at]).collect();
-        require(labels.iter().all(|&label| u32::from(label) >> (goals + 1) == 0), Refusal::PlantLabel)?;
+        let settles = last == 1;
+        let free = if settles { SETTLED } else { 0 };
+        require(labels.iter().all(|&label| u32::from(label & !free) >> (goals + 1) == 0), Refusal::PlantLabel)?;
 
         let arrows: Vec<Arrow> = bytes[arrows_at..]
             .chunks_exact(6)
@@ -58,7 +63,7 @@ impl Plant {
         };
         let ascending = arrows.windows(2).all(|pair| pair[0] < pair[1]);
         require(arrows.iter().all(known) && ascending, Refusal::PlantArrow)?;
-        Ok(Plant { states, moves, goals, labels, arrows })
+        Ok(Plant { states, moves, goals, settles, labels, arrows })
     }
 
     /// Whether a mask names only moves that the plant has.
@@ -68,7 +73,12 @@ impl Plant {
 
     /// How long the plant's books are.
     pub fn book_length(&self) -> usize {
-        16 + 4 * self.states * self.goals
+        book_length(self.states, self.goals, self.settles)
+    }
+
+    /// Whether the state is settled, in a plant whose runs must settle.
+    pub fn is_settled(&self, state: usize) -> bool {
+        self.labels[state] & SETTLED != 0
     }
 
     /// Whether the state is allowed.
@@ -99,37 +109,61 @@ pub struct BookView<'a> {
     pub goals: usize,
     /// The moves in service.
     pub mask: u32,
+    /// Whether rows open with a stage: whether it is a book for plants whose runs must settle.
+    pub has_stages: bool,
     rows: &'a [u8],
 }
 
 impl<'a> BookView<'a> {
-    /// Reads a book, which must have the counts of the plant if one is given; refuses with 4 or 5.
+    /// Reads a book, which must have the counts of the plant, and be of its sort, if one is given; refuses with 4 or 5.
     pub fn read(bytes: &'a [u8], plant: Option<&Plant>) -> Result<BookView<'a>, Refusal> {
         let header = header(bytes).ok_or(Refusal::BookHeader)?;
         let [states, moves, goals, kept, _, _, rows_at, length] = header.map(usize::from);
         let mask = u32::from(header[4]) | u32::from(header[5]) << 16;
-        let places = rows_at == 16 && length == 16 + 4 * states * goals && bytes.len() == length;
+        let has_stages = length == book_length(states, goals, true);
+        let whole = has_stages || length == book_length(states, goals, false);
+        let places = rows_at == 16 && whole && bytes.len() == length;
         let sound = in_range(states, moves, goals) && places && below(mask, moves);
-        let suits = plant.map_or(true, |plant| (plant.states, plant.moves, plant.goals) == (states, moves, goals));
+        let like = |plant: &Plant| (plant.states, plant.moves, plant.goals, plant.settles);
+        let suits = plant.map_or(true, |plant| like(plant) == (states, moves, goals, has_stages));
         require(sound && suits, Refusal::BookHeader)?;
 
-        let book = BookView { states, goals, mask, rows: &bytes[16..] };
-        let mut counted = 0;
-        for state in 0..states {
-            let row = || (0..goals).map(|goal| book.entry(state, goal));
-            if row().all(|entry| entry == (LOST, LOST)) {
-                continue;
-            }
-            require(row().all(|(wait, action)| wait <= LARGEST_WAIT && in_mask(mask, action)), Refusal::BookRow)?;
-            counted += 1;
-        }
-        require(counted == kept, Refusal::BookRow)?;
+        let book = BookView { states, goals, mask, has_stages, rows: &bytes[16..] };
+        let lost = (0..states).filter(|&state| book.is_lost(state)).count();
+        let sound = |state| book.is_lost(state) || book.is_sound(state);
+        require((0..states).all(sound) && states - lost == kept, Refusal::BookRow)?;
         Ok(book)
+    }
+
+    /// Whether a row is wholly lost.
+    fn is_lost(&self, state: usize) -> bool {
+        let stage = !self.has_stages || self.stage(state) == LOST;
+        stage && (0..self.goals).all(|goal| self.entry(state, goal) == (LOST, LOST))
+    }
+
+    /// Whether a row can be that of a kept state.
+    fn is_sound(&self, state: usize) -> bool {
+        let in_range = |(wait, action)| wait <= LARGEST_WAIT && in_mask(self.mask, action);
+        (1..=self.states).contains(&self.stage(state).into())
+            && (0..self.goals).all(|goal| in_range(self.entry(state, goal)))
+    }
+
+    /// How many bytes a row has.
+    pub fn row_length(&self) -> usize {
+        self.rows.len() / self.states
+    }
+
+    /// The stage of a state, or [`LOST`]; 1 for every state of a book without stages.
+    pub fn stage(&self, state: usize) -> u16 {
+        match self.has_stages {
+            true => number(self.rows, self.row_length() * state),
+            false => 1,
+        }
     }
 
     /// The wait and the move of a state for a goal.
     pub fn entry(&self, state: usize, goal: usize) -> (u16, u16) {
-        let at = 4 * (state * self.goals + goal);
+        let at = self.row_length() * (state + 1) - 4 * (self.goals - goal);
         (number(self.rows, at), number(self.rows, at + 2))
     }
 
@@ -139,12 +173,20 @@ impl<'a> BookView<'a> {
     }
 }
 
+/// How long a book is, with or without stages.
+fn book_length(states: usize, goals: usize, stages: bool) -> usize {
+    16 + if stages { 2 * states } else { 0 } + 4 * states * goals
+}
+
 /// Fills `book`, which has the length of the plant's books.
 pub fn write_book(plant: &Plant, mask: u32, table: &Table, book: &mut [u8]) {
     let halves = [mask as u16, (mask >> 16) as u16];
     let counts = [plant.states, plant.moves, plant.goals, table.kept_count(plant)].map(|count| count as u16);
     let header = counts.into_iter().chain(halves).chain([16, book.len() as u16]);
-    let rows = table.waits.iter().zip(&table.moves).flat_map(|(&wait, &action)| [wait, action]);
+    let entries =
+        |row: usize| (row * plant.goals..(row + 1) * plant.goals).map(|at| [table.waits[at], table.moves[at]]);
+    let stage = |row: usize| plant.settles.then_some(table.stages[row]);
+    let rows = (0..plant.states).flat_map(|row| stage(row).into_iter().chain(entries(row).flatten()));
     for (place, value) in book.chunks_exact_mut(2).zip(header.chain(rows)) {
         place.copy_from_slice(&value.to_le_bytes());
     }

@@ -1,5 +1,5 @@
-//! The independent check: solvers made from document 01 and the published algorithm alone, by other means than the
-//! proved library, with the same calls and byte for byte the same answers.
+//! The independent check: solvers made from documents 01 and 02 and the published algorithm alone, by other means than
+//! the proved library, with the same calls and byte for byte the same answers.
 //!
 //! - [`Brute`] looks for strategies and for the opponent's replies one by one, for tiny plants, and panics if the two
 //!   sides do not account for every state. It uses no fixed point.
@@ -7,7 +7,8 @@
 //! - [`Fast`] strikes states out from a worklist, with the arrows indexed by the state they end in.
 //!
 //! They share the checks and the layout of the bytes ([`mod@format`]) and the frame of the calls in this file, and nothing
-//! of the solving: each turns a [`Plant`], the moves in service and the states it may use into a [`Table`].
+//! of the solving: each turns a [`Plant`], the moves in service and the states it may use into a [`Table`]. In a plant
+//! whose runs must settle they find the stages of request (ix) one after another.
 
 mod brute;
 mod fast;
@@ -23,9 +24,11 @@ use crate::sys::{Advice, Answer, Cost, Mask, Part};
 use crate::Refusal;
 use format::{in_mask, BookView, Plant, LOST};
 
-/// Waits and moves of all states, row by row with an entry per goal; [`LOST`] in both for a lost state.
+/// Stages of all states, and waits and moves row by row with an entry per goal; [`LOST`] in all for a lost state.
 #[derive(Clone, Debug, PartialEq, Eq)]
 pub struct Table {
+    /// The stage of each state; of no account in a plant whose runs need not settle.
+    pub stages: Vec<u16>,
     /// The least number of moves that forces the goal.
     pub waits: Vec<u16>,
     /// The move to make.
@@ -36,7 +39,7 @@ impl Table {
     /// The table in which every state is lost.
     pub fn lost(plant: &Plant) -> Table {
         let entries = plant.states * plant.goals;
-        Table { waits: vec![LOST; entries], moves: vec![LOST; entries] }
+        Table { stages: vec![LOST; plant.states], waits: vec![LOST; entries], moves: vec![LOST; entries] }
     }
 
     /// Whether the state is kept.
@@ -233,12 +236,13 @@ fn arrive(book: &BookView, state: usize, sought: usize) -> usize {
 fn row(book: &[u8], state: u32) -> Result<Part, Refusal> {
     let book = BookView::read(book, None)?;
     require((state as usize) < book.states, Refusal::OutOfBook)?;
-    let length = 4 * book.goals as u32;
+    let length = book.row_length() as u32;
     Ok(Part { number: 0, start: 16 + length * state, length })
 }
 
-/// Tries each move in service by itself: it is good if it leads anywhere, and wherever it may lead is kept and, above
-/// wait 0, nearer to the goal arrived at.
+/// Tries each move in service by itself. Those that lead to earlier stages alone are the good ones, if there are any;
+/// otherwise those that lead to no later stage and, in the state's own and above wait 0, nearer to the goal arrived at.
+/// In a book without stages all kept states are of one.
 fn moves(plant: &[u8], book: &[u8], state: u32, goal: u32) -> Result<Mask, Refusal> {
     let plant = Plant::read(plant)?;
     let book = BookView::read(book, Some(&plant))?;
@@ -248,14 +252,27 @@ fn moves(plant: &[u8], book: &[u8], state: u32, goal: u32) -> Result<Mask, Refus
         return Ok(Mask::default());
     }
     let goal = arrive(&book, state, goal);
-    let wait = book.entry(state, goal).0;
-    let lands_well = |&end: &usize| book.is_kept(end) && (wait == 0 || book.entry(end, goal).0 < wait);
-    let is_good = |&action: &u16| {
-        let ends = plant.ends(state, action);
-        !ends.is_empty() && ends.iter().all(lands_well)
+    let (wait, stage) = (book.entry(state, goal).0, book.stage(state));
+    let is_earlier = |end: usize| book.is_kept(end) && book.stage(end) < stage;
+    let is_nearer = |end: usize| {
+        let beside = book.is_kept(end) && book.stage(end) == stage;
+        is_earlier(end) || beside && (wait == 0 || book.entry(end, goal).0 < wait)
     };
-    let good = (0..plant.moves as u16).filter(|&action| in_mask(book.mask, action)).filter(is_good);
-    Ok(Mask { number: 0, mask: good.map(|action| 1 << action).sum() })
+    let mask = match leading(&plant, book.mask, state, is_earlier) {
+        0 => leading(&plant, book.mask, state, is_nearer),
+        leaving => leaving,
+    };
+    Ok(Mask { number: 0, mask })
+}
+
+/// The moves in service that lead somewhere, and only to ends at which the test holds.
+fn leading(plant: &Plant, mask: u32, state: usize, test: impl Fn(usize) -> bool) -> u32 {
+    let leads = |action: &u16| {
+        let ends = plant.ends(state, *action);
+        !ends.is_empty() && ends.into_iter().all(&test)
+    };
+    let in_service = (0..plant.moves as u16).filter(|&action| in_mask(mask, action));
+    in_service.filter(leads).map(|action| 1 << action).sum()
 }
 
 fn require(holds: bool, refusal: Refusal) -> Result<(), Refusal> {

@@ -1,10 +1,13 @@
 //! What document 01 fixes by hand: the marked examples M1 to M11, and the table of refusals with its edges; and what
 //! requests (i), (ii), (iv), (v), (vi) and (vii) of document 02 say of the good moves, of drop lists, of previews, of
-//! the goals that are passed, of lists of withdrawals and of returns, worked out by hand. Run on any planner.
+//! the goals that are passed, of lists of withdrawals and of returns, worked out by hand. What request (ix) says of
+//! plants that must settle is in [`settle`]. Run on any planner.
 
 use planbook::calls::{mask_bytes, Calls};
 use planbook::plants::{self, bytes_of, Model};
 use planbook::sys::{Advice, Answer, Cost, Mask, Part};
+
+pub mod settle;
 
 const LOST: u16 = u16::MAX;
 
@@ -250,7 +253,7 @@ pub fn lists(planner: &dyn Calls) {
 /// 32 states in the one goal, each of which stays where it is by the move of its own number.
 fn posts() -> Vec<u8> {
     let arrows = (0..32).map(|state| [state, state, state]).collect();
-    Model { moves: 32, goals: 1, labels: vec![3; 32], arrows }.bytes()
+    Model { moves: 32, goals: 1, settles: false, labels: vec![3; 32], arrows }.bytes()
 }
 
 /// The book of that plant: a state is kept exactly when its move is in service.
@@ -417,7 +420,7 @@ pub fn previews_of_the_longest(planner: &dyn Calls) {
 fn thirds() -> Vec<u8> {
     let stays = |state: u16| (0..if state % 3 == 0 { 2 } else { 1 }).map(move |action| [state, action, state]);
     let arrows = (0..1024).flat_map(stays).collect();
-    Model { moves: 2, goals: 1, labels: vec![3; 1024], arrows }.bytes()
+    Model { moves: 2, goals: 1, settles: false, labels: vec![3; 1024], arrows }.bytes()
 }
 
 /// The states of that plant, and its states that have one move alone.
@@ -565,7 +568,7 @@ fn signposts(goals: u16, rows: &[Row]) -> (Vec<u8>, Vec<u8>) {
     let (first, states) = (rows.len() as u16, rows.len() as u16 + goals + 1);
     let leads = |state| move |action: u16| [state, action, if action <= goals { first + action } else { state }];
     let arrows = (0..first).flat_map(|state| (0..goals + 2).map(leads(state))).collect();
-    let plant = Model { moves: 32, goals, labels: vec![1; states.into()], arrows }.bytes();
+    let plant = Model { moves: 32, goals, settles: false, labels: vec![1; states.into()], arrows }.bytes();
 
     let serves = |served| (0..goals).flat_map(move |goal| [if goal == served { 0 } else { 1023 }, 31]);
     let header = [states, 32, goals, states - 1, u16::MAX, u16::MAX, 16, 16 + 4 * states * goals];
@@ -787,12 +790,17 @@ fn check_plant(planner: &dyn Calls, plant: &[u8], number: u32) {
 
 /// The number for a book, by every call that takes one beside P.
 fn check_book(planner: &dyn Calls, book: &[u8], number: u32) {
-    let plant = bytes_of(&P);
-    check_withdraw(planner, &plant, book, 4, [48, 8], number);
-    check_withdraw_list(planner, &plant, book, &mask_bytes(&[2, 4]), [48, 8], number);
-    check_return_number(planner, &plant, book, 4, [48, 8], number);
-    check_preview(planner, &plant, book, 4, 8, number);
-    check_moves(planner, &plant, book, 3, 1, number);
+    check_book_of(planner, &bytes_of(&P), book, 4, number);
+    check_moves(planner, &bytes_of(&P), book, 3, 1, number);
+}
+
+/// The number for a book, by every call that takes one beside a plant of at most four states that has these moves.
+fn check_book_of(planner: &dyn Calls, plant: &[u8], book: &[u8], mask: u32, number: u32) {
+    check_withdraw(planner, plant, book, mask, [48, 8], number);
+    check_withdraw_list(planner, plant, book, &mask_bytes(&[mask, 1]), [48, 8], number);
+    check_return_number(planner, plant, book, mask, [48, 8], number);
+    check_preview(planner, plant, book, mask, 8, number);
+    check_moves(planner, plant, book, 0, 0, number);
 }
 
 /// 1: the plant's header and length.
@@ -803,9 +811,12 @@ fn plant_headers(planner: &dyn Calls) {
     check_plant(planner, &plant[..71], 1);
     check_plant(planner, &[&plant[..], &[0]].concat(), 1);
     for (at, &number) in P[..8].iter().enumerate() {
-        // 0 is right for the last number; U and N may be larger than the labels and arrows need.
+        // 0 and 1 are right for the last number; U and N may be larger than the labels and arrows need.
         check_plant(planner, &changed(&P, &[(at, 0)]), if at == 7 { 0 } else { 1 });
-        check_plant(planner, &changed(&P, &[(at, number + 1)]), if at == 1 || at == 2 { 0 } else { 1 });
+        check_plant(planner, &changed(&P, &[(at, number + 1)]), if [1, 2, 7].contains(&at) { 0 } else { 1 });
+    }
+    for last in [2, 3, 256, 257, u16::MAX] {
+        check_plant(planner, &changed(&P, &[(7, last)]), 1);
     }
     for (states, moves, goals) in [(1025, 32, 8), (1024, 33, 8), (1024, 32, 9), (0, 1, 1), (1, 0, 1), (1, 1, 0)] {
         check_plant(planner, &bare(states, moves, goals), 1);
@@ -1007,7 +1018,7 @@ fn the_first_that_applies(planner: &dyn Calls) {
     check(&plant, &bytes_of(&faulty_book), 4, 4);
     check_moves(planner, &plant, &bytes_of(&faulty_book), 4, 2, 4);
     check_lookup(planner, &bytes_of(&faulty_book), 4, 2, 4);
-    for (at, number, refusal) in [(33, 4, 3), (8, 8, 2), (7, 1, 1)] {
+    for (at, number, refusal) in [(33, 4, 3), (8, 8, 2), (7, 2, 1)] {
         faulty_plant[at] = number;
         check(&bytes_of(&faulty_plant), &bytes_of(&faulty_book), refusal, refusal);
         check_moves(planner, &bytes_of(&faulty_plant), &bytes_of(&faulty_book), 4, 2, refusal);

@@ -1,11 +1,11 @@
-//! What requests (i), (ii) and (iv) to (vii) of document 02 promise of the books that make, withdraw or return wrote
+//! What requests (i), (ii), (iv) to (vii) and (ix) of document 02 promise of the books that make, withdraw or return wrote
 //! for a plant: which goal is arrived at and which the good moves are, that following the book meets all goals, by its
 //! own moves or by any pick from the good ones, what a drop list says of the books before and after, that previews come
 //! true, what a list of withdrawals comes to, that returns undo withdrawals, and what any list of calls comes to.
 //! Run on any planner; nothing is compared with another.
 
 use planbook::calls::{mask_bytes, Calls};
-use planbook::plants::{self, Model, Random, FAMILIES};
+use planbook::plants::{self, Model, Random, FAMILIES, SETTLED, WAYS_TO_SETTLE};
 use planbook::second::format::{in_mask, number, together, BookView, Plant};
 use planbook::sys::{Advice, Answer};
 
@@ -16,8 +16,7 @@ fn moves_of(mask: u32) -> Vec<u16> {
 
 /// How long a plant's books are, and the list of all its states.
 fn lengths(model: &Model) -> [usize; 2] {
-    let states = model.labels.len();
-    [16 + 4 * states * usize::from(model.goals), 2 * states]
+    [model.book_length(), model.list_length()]
 }
 
 /// The book of a plant with the moves of a mask in service.
@@ -73,9 +72,11 @@ fn read(book: &[u8]) -> BookView<'_> {
     BookView::read(book, None).expect("a book that was written")
 }
 
-/// A plant of any size, and a book of it that make wrote for all moves or some, or withdraw or return from that.
+/// A plant of any size and either sort, and a book of it that make wrote for all moves or some, or withdraw or return
+/// from that.
 fn any_book(planner: &dyn Calls, random: &mut Random) -> (Model, Vec<u8>) {
     let model = if random.once_in(2) { plants::tiny(random) } else { plants::any_size(random) };
+    let model = plants::either_sort(model, random);
     let some = if random.once_in(4) { random.bits() as u32 } else { u32::MAX };
     let mut book = make(planner, &model, model.every_move() & some);
     for _ in 0..random.below(3) {
@@ -229,12 +230,16 @@ pub fn returns_undo_withdrawals(planner: &dyn Calls) {
 /// that nobody made.
 fn tampered(book: &[u8], random: &mut Random) -> Vec<u8> {
     let mut book = book.to_vec();
-    let lowest = moves_of(read(&book).mask).first().map(|&action| [0, 0, action as u8, 0]);
-    let row_length = 4 * usize::from(number(&book, 4));
+    let rows = read(&book);
+    let (row_length, opening) = (rows.row_length(), if rows.has_stages { 2 } else { 0 });
+    let lowest = moves_of(rows.mask).first().map(|&action| [0, 0, action as u8, 0]);
     for row in book[16..].chunks_exact_mut(row_length) {
         match (random.below(4), lowest) {
             (0, _) => row.fill(0xff),
-            (1, Some(entry)) => row.chunks_exact_mut(4).for_each(|place| place.copy_from_slice(&entry)),
+            (1, Some(entry)) => {
+                row[..opening].copy_from_slice(&[1, 0][..opening]);
+                row[opening..].chunks_exact_mut(4).for_each(|place| place.copy_from_slice(&entry));
+            }
             _ => {}
         }
     }
@@ -334,6 +339,7 @@ pub fn lists_of_calls_come_to_a_making(planner: &dyn Calls) {
     for seed in 0..1_500 {
         let random = &mut Random::new(seed);
         let model = if random.once_in(4) { plants::any_size(random) } else { plants::tiny(random) };
+        let model = plants::either_sort(model, random);
         let [one, two] = [(); 2].map(|()| {
             let in_service = random.bits() as u32 & model.every_move();
             let book = make(planner, &model, in_service);
@@ -358,6 +364,107 @@ pub fn lists_of_calls_come_to_a_making(planner: &dyn Calls) {
     assert!(accepted > 10_000 && bad_masks > 300 && short > 500 && equal > 200 && differ > 500);
 }
 
+/// The plant of one stage, which need not settle: settled states, and those that leave for the states given, which stay
+/// where they are and are in every goal. `stay` is a move in service.
+fn plant_of_stage(model: &Model, leaves: &[bool], stay: u16) -> Model {
+    let every_goal = (1 << (model.goals + 1)) - 1;
+    let label = |(&label, &leaves): (&u16, &bool)| match (leaves, label & SETTLED != 0) {
+        (true, _) => every_goal,
+        (false, true) => label & !SETTLED,
+        (false, false) => 0,
+    };
+    let labels = model.labels.iter().zip(leaves).map(label).collect();
+    let mut arrows = model.arrows.clone();
+    arrows.retain(|[from, ..]| !leaves[usize::from(*from)]);
+    arrows.extend((0..).zip(leaves).filter(|(_, &leaves)| leaves).map(|(state, _)| [state, stay, state]));
+    Model { settles: false, labels, arrows, ..model.clone() }
+}
+
+/// For each allowed state its lowest move that leads wholly into the states given, if it has one.
+fn leaving_moves(plant: &Plant, mask: u32, earlier: &[bool]) -> Vec<Option<u16>> {
+    let leads = |state: usize, action: u16| {
+        let ends = plant.ends(state, action);
+        !ends.is_empty() && ends.into_iter().all(|end| earlier[end])
+    };
+    let lowest = |state: usize| moves_of(mask).into_iter().find(|&action| leads(state, action));
+    (0..plant.states).map(|state| lowest(state).filter(|_| plant.is_allowed(state))).collect()
+}
+
+/// A plant of any size that must settle.
+fn any_settled(random: &mut Random) -> Model {
+    match random.once_in(2) {
+        true => plants::tiny_settled(random),
+        false => WAYS_TO_SETTLE[random.below(3)].of(plants::any_size(random), random),
+    }
+}
+
+/// Where runs must settle, a book comes to those of plants that need not: the rows of each stage are those of the plant
+/// that passes settled states alone, and in which a state stays and is in every goal that has a move wholly into the
+/// stages before. Such a state has wait 0 and the lowest such move.
+pub fn stages_come_to_plain_books(planner: &dyn Calls) {
+    // How many rows of kept states are compared, of how many of these the state leaves, and the latest stage.
+    let (mut compared, mut leaving, mut latest) = (0, 0, 0);
+    for seed in 0..1_500 {
+        let random = &mut Random::new(seed);
+        let model = any_settled(random);
+        let mask = model.every_move() & if random.once_in(2) { u32::MAX } else { random.bits() as u32 };
+        let (plant, book) = (Plant::read(&model.bytes()).expect("a plant"), make(planner, &model, mask));
+        let (rows, stay) = (read(&book), moves_of(mask).first().copied().unwrap_or(0));
+        let mut earlier = vec![false; plant.states];
+        for stage in 1.. {
+            let leave = leaving_moves(&plant, mask, &earlier);
+            let leaves: Vec<bool> = leave.iter().map(Option::is_some).collect();
+            let plain = make(planner, &plant_of_stage(&model, &leaves, stay), mask);
+            let plain = read(&plain);
+            let own: Vec<usize> = (0..plant.states).filter(|&state| plain.is_kept(state) && !earlier[state]).collect();
+            for &state in &own {
+                assert_eq!(rows.stage(state), stage, "the stage of state {state}, seed {seed}");
+                for goal in 0..plant.goals {
+                    let expected = leave[state].map_or(plain.entry(state, goal), |action| (0, action));
+                    assert_eq!(rows.entry(state, goal), expected, "state {state}, goal {goal}, seed {seed}");
+                }
+                earlier[state] = true;
+            }
+            if own.is_empty() {
+                break;
+            }
+            compared += own.len();
+            leaving += own.iter().filter(|&&state| leaves[state]).count();
+            latest = stage.max(latest);
+        }
+        let kept: Vec<bool> = (0..plant.states).map(|state| rows.is_kept(state)).collect();
+        assert_eq!(kept, earlier, "a state is kept exactly if it has a stage, seed {seed}");
+    }
+    println!(
+        "{}: {compared} rows with stages are those of plain books, in {leaving} the stage is left; the latest is {latest}",
+        planner.name()
+    );
+    assert!(compared > 20_000 && leaving > 2_000 && latest > 8);
+}
+
+/// In a withdrawal from a book that was written, the stages of states that are still kept never fall. Waits may.
+pub fn stages_never_fall(planner: &dyn Calls) {
+    // How many stages are as before and how many are later; and how many waits fall.
+    let (mut stages, mut falling) = ([0; 2], 0);
+    for seed in 0..3_000 {
+        let random = &mut Random::new(seed);
+        let model = any_settled(random);
+        let before = make(planner, &model, model.every_move());
+        let after = withdraw(planner, &model, &before, 1 << random.below(model.moves.into()));
+        let (before, after) = (read(&before), read(&after));
+        for state in (0..before.states).filter(|&state| after.is_kept(state)) {
+            let [old, new] = [before, after].map(|rows| rows.stage(state));
+            assert!(old <= new, "state {state} of stage {old} has {new}, seed {seed}");
+            stages[usize::from(old < new)] += 1;
+            let falls = |goal: &usize| after.entry(state, *goal).0 < before.entry(state, *goal).0;
+            falling += (0..before.goals).filter(falls).count();
+        }
+    }
+    let [same, later] = stages;
+    println!("{}: {same} stages stay and {later} rise in withdrawals, {falling} waits fall", planner.name());
+    assert!(same > 10_000 && later > 30 && falling > 10);
+}
+
 /// A plant and a mask with a move and move 0 in each other's place.
 fn with_first(model: &Model, mask: u32, first: u16) -> (Model, u32) {
     let place = |action: u16| match action {
@@ -370,16 +477,22 @@ fn with_first(model: &Model, mask: u32, first: u16) -> (Model, u32) {
     (Model { arrows, ..model.clone() }, mask)
 }
 
-/// The goal arrived at, told from the labels alone: goals are passed as long as the state is in them, and after all of
-/// them comes the one sought again.
+/// The goal arrived at in a kept state, told from the labels alone: goals are passed as long as the state is in them,
+/// and after all of them comes the one sought again. Where runs must settle, a kept state that is not settled is one
+/// that leaves its stage, and there the goal sought stays.
 fn arrived_at(plant: &Plant, state: usize, sought: usize) -> usize {
     let mut goal = sought;
     for _ in 0..plant.goals {
-        if plant.in_goal(state, goal) {
+        if plant.in_goal(state, goal) && !is_restless(plant, state) {
             goal = (goal + 1) % plant.goals;
         }
     }
     goal
+}
+
+/// Whether runs must settle, and not in this state.
+fn is_restless(plant: &Plant, state: usize) -> bool {
+    plant.settles && !plant.is_settled(state)
 }
 
 /// What was seen of sets of good moves.
@@ -391,6 +504,8 @@ struct Sets {
     passed: u64,
     /// How many are of a state that serves all of several goals.
     all_served: u64,
+    /// How many lead from one stage to earlier ones alone.
+    leaving: u64,
 }
 
 /// A lost state has no good move. A kept state has some, for the goal arrived at; consult gives that goal, and the move
@@ -416,13 +531,13 @@ pub fn sets_are_those_of_the_rule(planner: &dyn Calls) {
             }
         }
     }
-    let Sets { sizes: [none, one, more], passed, all_served } = seen;
+    let Sets { sizes: [none, one, more], passed, all_served, leaving } = seen;
     println!(
         "{}: {none} sets of lost states, {one} of one move, {more} of more; {passed} after goals passed, {all_served} \
-         of states that serve all of several goals",
+         of states that serve all of several goals, {leaving} of states that leave their stage",
         planner.name()
     );
-    assert!(none > 20_000 && one > 5_000 && more > 10_000 && passed > 4_000 && all_served > 4_000);
+    assert!(none > 20_000 && one > 5_000 && more > 10_000 && passed > 4_000 && all_served > 4_000 && leaving > 1_000);
 }
 
 /// The good moves and consult for a state and the goal sought, from the book and from those in which each move in turn
@@ -452,13 +567,18 @@ fn check_set(
     let expected: Vec<u16> = firsts.map(|(action, _)| action).collect();
     assert_eq!(good, expected, "each is listed when it comes first, {}", input());
 
+    let mut ends = good.iter().flat_map(|&action| plant.ends(state, action));
+    if rows.is_kept(state) && is_restless(&plant, state) {
+        assert!(ends.all(|end| rows.stage(end) < rows.stage(state)), "the stage is left, {}", input());
+        seen.leaving += 1;
+    }
     seen.sizes[good.len().min(2)] += 1;
     seen.passed += u64::from(!good.is_empty() && goal != sought);
     seen.all_served += u64::from(wait == 0 && rows.goals > 1);
 }
 
 /// How far a walk goes.
-const STEPS: usize = 3_000;
+const STEPS: usize = 1_500;
 
 /// What was seen on walks.
 #[derive(Default)]
@@ -475,39 +595,60 @@ struct Seen {
     passed: u64,
     /// Times that all of several goals were met in one state.
     all_met: u64,
+    /// Times that a stage was left, and the most on one walk.
+    left: [u64; 2],
+    /// The most states on one walk that are not settled, where runs must settle.
+    restless: u16,
 }
 
-/// Following the book from any kept state and first goal, in plants of all families and any size: in half of the walks
-/// by consult's own moves, and in the others by any pick from the good ones, made anew at each step. The arrow that is
-/// followed is any one or, in half of the walks, one that leads farthest from the goal to seek.
+/// Following the book from any kept state and first goal, in plants of all families and any size, of both sorts: in half
+/// of the walks by consult's own moves, and in the others by any pick from the good ones, made anew at each step. The
+/// arrow that is followed is any one or, in half of the walks, one that leads farthest from the goal to seek.
 pub fn following_meets_the_goals(planner: &dyn Calls) {
     let mut seen = Seen::default();
     for family in FAMILIES {
         for states in [5, 40, 300, 1024] {
-            let model = family.build(states, 1);
-            let made = make(planner, &model, model.every_move());
-            let less = withdraw(planner, &model, &made, model.highest_move());
-            for (book, own) in [made, less].iter().flat_map(|book| [(book, true), (book, false)]) {
-                let what = format!("{} with {states} states", family.name());
-                Walk { planner, plant: &model.bytes(), book, own, what }.go(&mut Random::new(1), &mut seen);
+            walk_family(
+                planner,
+                &family.build(states, 1),
+                &format!("{} with {states} states", family.name()),
+                &mut seen,
+            );
+            for way in WAYS_TO_SETTLE {
+                let model = way.of(family.build(states, 1), &mut Random::new(1));
+                let what = format!("{} with {states} states, {}", family.name(), way.name());
+                walk_family(planner, &model, &what, &mut seen);
             }
         }
     }
-    for seed in 0..600 {
+    for seed in 0..1_200 {
         let random = &mut Random::new(seed);
         let (model, book) = any_book(planner, random);
         let what = format!("plant and book of seed {seed}");
         Walk { planner, plant: &model.bytes(), book: &book, own: seed % 2 == 0, what }.go(random, &mut seen);
     }
-    let Seen { walks: [own, picks], unlisted, reached, most, passed, all_met } = seen;
+    let Seen { walks: [own, picks], unlisted, reached, most, passed, all_met, left: [left, most_left], restless } =
+        seen;
     println!(
         "{}: {own} walks of {STEPS} steps by consult's moves and {picks} by picks, {unlisted} steps by moves that are \
          not listed; goals were reached {reached} times, after {most} moves at the most, {passed} more were passed, \
-         and all of several were met in one state {all_met} times",
+         and all of several were met in one state {all_met} times; stages were left {left} times, {most_left} on one \
+         walk at the most, with {restless} states that are not settled at the most",
         planner.name()
     );
     assert!(own > 100 && picks > 100 && unlisted > 50_000);
     assert!(reached > 50_000 && most > 400 && passed > 200_000 && all_met > 50_000);
+    assert!(left > 2_000 && most_left > 400 && restless > 400);
+}
+
+/// Walks in a plant by the book that is made with all moves and by the one without the highest.
+fn walk_family(planner: &dyn Calls, model: &Model, what: &str, seen: &mut Seen) {
+    let made = make(planner, model, model.every_move());
+    let less = withdraw(planner, model, &made, model.highest_move());
+    for (book, own) in [made, less].iter().flat_map(|book| [(book, true), (book, false)]) {
+        let what = what.to_string();
+        Walk { planner, plant: &model.bytes(), book, own, what }.go(&mut Random::new(1), seen);
+    }
 }
 
 /// A walk by a book.
@@ -522,33 +663,37 @@ struct Walk<'a> {
 }
 
 impl Walk<'_> {
-    /// Goes from a kept state, if there is one, and any first goal.
+    /// Goes from a kept state, if there is one, mostly of the latest stage, and any first goal.
     fn go(&self, random: &mut Random, seen: &mut Seen) {
         let (plant, rows) = (Plant::read(self.plant).expect("a plant"), read(self.book));
         let kept: Vec<usize> = (0..rows.states).filter(|&state| rows.is_kept(state)).collect();
+        let latest = kept.iter().copied().max_by_key(|&state| rows.stage(state));
         let waits = kept.iter().flat_map(|&state| (0..rows.goals).map(move |goal| rows.entry(state, goal).0));
         let Some(most) = waits.max() else {
             return;
         };
-        // Each goal has its turn, which takes at most its wait; before that there may be a move from where all are met.
-        let turns = 1 + rows.goals * usize::from(most);
-        let mut watch = Watch { plant: &plant, turns, met: vec![0; rows.goals], span: None };
-        let farthest = random.once_in(2);
         let (mut state, mut sought) = (kept[random.below(kept.len())], random.below(rows.goals));
+        state = latest.filter(|_| rows.has_stages && !random.once_in(4)).unwrap_or(state);
+        let mut watch = Watch::new(&plant, rows, most, state);
+        let farthest = random.once_in(2);
         for step in 0..STEPS {
             let here = || format!("step {step}, state {state}, goal {sought}, {}", self.what);
             let advice = self.planner.consult(self.book, state as u32, sought as u32);
             assert_eq!((advice.number, advice.lost), (0, 0), "the state is kept: {}", here());
-            watch.step(step, state, sought, &advice, &here, seen);
             let action = if self.own { advice.action as u16 } else { self.pick(state, sought, random) };
             let ends = plant.ends(state, action);
             assert!(in_mask(rows.mask, action) && !ends.is_empty(), "the move is available: {}", here());
             seen.unlisted += u64::from(u32::from(action) != advice.action);
-            sought = advice.seek as usize;
-            let far = ends.iter().copied().max_by_key(|&end| rows.entry(end, sought).0);
-            state = far.filter(|_| farthest).unwrap_or(ends[random.below(ends.len())]);
+            // The latest stage, and there the longest wait, is farthest.
+            let seek = advice.seek as usize;
+            let far = ends.iter().copied().max_by_key(|&end| (rows.stage(end), rows.entry(end, seek).0));
+            let next = far.filter(|_| farthest).unwrap_or(ends[random.below(ends.len())]);
+            watch.step(step, [state, next], sought, &advice, &here, seen);
+            (state, sought) = (next, seek);
         }
         seen.walks[usize::from(!self.own)] += 1;
+        seen.left[1] = seen.left[1].max(watch.left);
+        seen.restless = seen.restless.max(watch.restless);
     }
 
     /// One of the good moves, at random.
@@ -564,36 +709,59 @@ impl Walk<'_> {
 /// What is watched on a walk.
 struct Watch<'a> {
     plant: &'a Plant,
-    /// The most moves from one time that a goal is met to the next.
+    rows: BookView<'a>,
+    /// The most moves from one time that a goal is met to the next, or that the stage is left.
     turns: usize,
-    /// When each goal was met last.
+    /// When each goal was met last, or the stage was entered.
     met: Vec<usize>,
-    /// When the goal sought became the one to seek, and by when it is to be met; nothing at first, and after a state in
-    /// which all were met.
+    /// When the goal sought became the one to seek, and by when it is to be met; nothing at first, after a state in
+    /// which all were met, and in a new stage.
     span: Option<(usize, usize)>,
+    /// The stage of the first state; so many states at the most, less one, are not settled.
+    first_stage: u16,
+    /// How many states were not settled so far, where runs must settle.
+    restless: u16,
+    /// How often a stage was left.
+    left: u64,
 }
 
-impl Watch<'_> {
+impl<'a> Watch<'a> {
+    fn new(plant: &'a Plant, rows: BookView<'a>, most: u16, start: usize) -> Watch<'a> {
+        // Each goal has its turn, which takes at most its wait; before that there may be a move from where all are met,
+        // and a stage is left with the move after the wait.
+        let turns = 2 + plant.goals * usize::from(most);
+        let (met, first_stage) = (vec![0; plant.goals], rows.stage(start));
+        Watch { plant, rows, turns, met, span: None, first_stage, restless: 0, left: 0 }
+    }
+
+    /// A move leads from a state to the next. What is promised of goals is so unless the stage is left with it.
     fn step(
         &mut self,
         step: usize,
-        state: usize,
+        [state, next]: [usize; 2],
         sought: usize,
         advice: &Advice,
         here: &dyn Fn() -> String,
         seen: &mut Seen,
     ) {
         let (goals, wait, seek) = (self.plant.goals, advice.wait as usize, advice.seek as usize);
+        let [stage, next_stage] = [state, next].map(|state| self.rows.stage(state));
+        assert!(next_stage <= stage, "no later stage is entered: {}", here());
+        let left = next_stage < stage;
+        self.restless += u16::from(is_restless(self.plant, state));
+        let few = !self.plant.settles || self.restless < self.first_stage;
+        assert!(few, "fewer states are not settled than the first stage says: {}", here());
+
         let met_here = |goal| self.plant.in_goal(state, goal);
         for goal in (0..goals).filter(|&goal| met_here(goal)) {
             self.met[goal] = step;
         }
         assert!(self.met.iter().all(|&last| step - last <= self.turns), "each is met again and again: {}", here());
-        assert_eq!(met_here(seek), wait == 0, "the goal to seek is met here at wait 0 alone: {}", here());
+        assert!(met_here(seek) == (wait == 0) || left, "the goal to seek is met here at wait 0 alone: {}", here());
         assert!(wait != 0 || seek == sought, "the goal sought stays if all are met: {}", here());
         let passed = if wait == 0 { goals } else { (seek + goals - sought) % goals };
         let mut in_turn = (0..passed).map(|turn| (sought + turn) % goals);
-        assert!(in_turn.all(met_here), "goals are met where they are passed: {}", here());
+        assert!(in_turn.all(met_here) || left, "goals are met where they are passed: {}", here());
         if let Some((begun, end)) = self.span {
             assert!(step + usize::from(passed == 0) <= end, "it is met within the wait that was shown: {}", here());
             seen.reached += u64::from(passed != 0);
@@ -604,5 +772,11 @@ impl Watch<'_> {
             self.span = (wait != 0).then_some((step, step + wait));
         }
         seen.all_met += u64::from(wait == 0 && goals > 1);
+        if left {
+            self.span = None;
+            self.met.fill(step + 1);
+            self.left += 1;
+            seen.left[0] += 1;
+        }
     }
 }

@@ -1,14 +1,13 @@
--- `consult::state_row` meets its contract: an accepted state's row starts at its first entry and stands within the book.
+-- `consult::state_row` meets its contract: an accepted state's row stands within the book.
 -- Assumes nothing.
 use borrow.Author.Needs.{needs}
 use mathlib.Core.Path.{_≡_, refl, sym, ap, _∙_}
 use mathlib.Core.List.{List}
-use Prim.Native.Nat.{ℕ, _+_, _*_, _≤_}
+use Prim.Native.Nat.{ℕ, _+_, _≤_}
 use native.Mathlib.Omega.{arith}
 use lib.Dec.{eqb}
 use lib.ListN.{length}
 use denote.Ref.{now}
-use Rattle.statements.specs.Books.{bookGoals}
 use Rattle.statements.specs.Calls.{consultFault}
 use Rattle.consult.proofs.Consulted.{no-row, no-start, empty-row, start-given, row-fits, row-is, full-row}
 use Rattle.consult.proofs.state_row.Statement.{statement}
@@ -36,31 +35,24 @@ returns c =
       ),
     )
 
-entry-place-requires : tie.Need-entry-place-requires
-entry-place-requires c κs = search needs
+row-place-requires : tie.Need-row-place-requires
+row-place-requires c κs = search needs
 
-number-requires : tie.Need-number-requires
-number-requires c κs = search needs
-
-cast-end : tie.Need-cast-end
-cast-end c = search needs
-
-mul-end : tie.Need-mul-end
-mul-end c = search needs
+row-long-requires : tie.Need-row-long-requires
+row-long-requires c κs = search needs
 
 -- past the refusal: the call is accepted, and the row stands within the book
-given : (c : tie.After-number)
+given : (c : tie.After-row-long)
     → let a = c .before .before .before .before .before .args in
     consultFault (now (a .book)) (a .state) 0 ≡ 0
 given c = sym (c .before .before .before .consult .ensures) ∙ c .before .before .if1 .left
 
-within : (c : tie.After-number)
+within : (c : tie.After-row-long)
     → let a = c .before .before .before .before .before .args in
-    c .before .entry-place .result + 4 * c .number .result ≤ length (now (a .book))
-unfolding bookGoals
+    c .before .row-place .result + c .row-long .result ≤ length (now (a .book))
 within c =
     let a = c .before .before .before .before .before .args in
-    omega (arith, row-fits (now (a .book)) (a .state) (given c), c .before .entry-place .ensures, c .number .ensures)
+    omega (arith, row-fits (now (a .book)) (a .state) (given c), c .before .row-place .ensures, c .row-long .ensures)
 
 add-end : tie.Need-add-end
 add-end c = omega (arith, within c)
@@ -75,11 +67,10 @@ part-result-end : tie.Need-part-result-end
 part-result-end c = within c
 
 returns-2 : tie.Need-returns-2
-unfolding bookGoals
 returns-2 c =
     let a = c .before .before .before .before .before .before .args in
-    let place = c .before .before .entry-place .ensures in
-    let part = row-is (now (a .book)) (a .state) (given (c .before)) _ _ place (c .before .number .ensures) in (
+    let place = c .before .before .row-place .ensures in
+    let part = row-is (now (a .book)) (a .state) (given (c .before)) _ _ place (c .before .row-long .ensures) in (
       part,
       (
         refl,
@@ -97,10 +88,8 @@ state-row-spec =
     consult-requires
     slice-aggregate-result
     returns
-    entry-place-requires
-    number-requires
-    cast-end
-    mul-end
+    row-place-requires
+    row-long-requires
     add-end
     sub-result
     part-result-start

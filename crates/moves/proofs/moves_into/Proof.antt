@@ -10,12 +10,12 @@ use lib.Dec.{ltb}
 use borrow.Author.Tests.{not-true, not-false}
 use Rattle.statements.specs.Sets.{bit, isIn}
 use Rattle.statements.specs.Plants.{plantOf}
-use Rattle.statements.specs.Books.{bookMask, nearerIn, lessMask}
+use Rattle.statements.specs.Books.{bookMask, stageAt, waitAt, lessMask}
 use Rattle.format.specs.declared.arrows.Arrow.{Arrow as ReadArrow}
 use Rattle.format.specs.Arrows.{arrowIn}
 use Rattle.format.proofs.Words.{power}
-use Rattle.moves.specs.Checks.{nearerThan}
-use Rattle.moves.proofs.Rule.{nearer-is}
+use Rattle.moves.specs.Checks.{nearerThan, leadsIn}
+use Rattle.moves.proofs.Rule.{leads-is}
 use Rattle.moves.proofs.Turns.{ofMask, Tried, Here, tried-start, tried-state, tried-move, tried-few, tried-in}
 use Rattle.moves.proofs.Turns.{tried-out, tried-end}
 use borrow.Author.Needs.{needs}
@@ -23,18 +23,18 @@ use Rattle.moves.proofs.moves_into.Statement.{statement}
 use Rattle.moves.proofs.moves_into.Tie as tie
 
 abbrev Inv-loop : tie.InvT-loop
-Inv-loop plant book state goal in-service moves wait count seen₀ bad₀ k₀ seen bad k =
-    Tried plant (bookMask book) state (nearerIn book state goal) k seen bad
+Inv-loop plant book state goal early stage in-service moves wait count seen₀ bad₀ k₀ seen bad k =
+    Tried plant (bookMask book) state (leadsIn book early state goal) k seen bad
 
 abbrev μ-loop : tie.MeasureT-loop
-μ-loop plant book state goal in-service moves wait count seen₀ bad₀ k₀ seen bad k = count - k
+μ-loop plant book state goal early stage in-service moves wait count seen₀ bad₀ k₀ seen bad k = count - k
 
 -- the arrow at a place, and those tried before it
 at-place : (c : tie.After-from-at Inv-loop μ-loop) {r : ReadArrow}
     → let l = c .before .before in
-    let a = l .before .before .before .before .before .before .before .args in
+    let a = l .before .before .before .before .before .before .before .before .args in
     r ≡ arrowIn (now (a .plant)) (l .loop .k)
-    → Here (now (a .plant)) (bookMask (now (a .book))) (a .state) (nearerIn (now (a .book)) (a .state) (a .goal))
+    → Here (now (a .plant)) (bookMask (now (a .book))) (a .state) (leadsIn (now (a .book)) (a .early) (a .state) (a .goal))
     (l .loop .k) (l .loop .seen) (l .loop .bad) r
 at-place c e =
     let l = c .before .before in
@@ -47,17 +47,20 @@ at-place c e =
 -- once it is read, and that it is the state's
 here : (c : tie.After-read Inv-loop μ-loop)
     → let l = c .before .before .before .before in
-    let a = l .before .before .before .before .before .before .before .args in
-    Here (now (a .plant)) (bookMask (now (a .book))) (a .state) (nearerIn (now (a .book)) (a .state) (a .goal))
+    let a = l .before .before .before .before .before .before .before .before .args in
+    Here (now (a .plant)) (bookMask (now (a .book))) (a .state) (leadsIn (now (a .book)) (a .early) (a .state) (a .goal))
     (l .loop .k) (l .loop .seen) (l .loop .bad) (c .read .result)
 here c = at-place (c .before .before) (c .read .ensures)
 
 of-state : (c : tie.After-read Inv-loop μ-loop)
-    → let a = c .before .before .before .before .before .before .before .before .before .before .before .args in
+    → let a = c .before .before .before .before .before .before .before .before .before .before .before .before .args in
     c .read .result .from ≡ a .state
 of-state c =
     ap (λ (r : ReadArrow). r .from) (c .read .ensures) ∙ sym (c .before .before .from-at .ensures)
     ∙ c .before .if1 .left
+
+stage-at-requires : tie.Need-stage-at-requires Inv-loop μ-loop
+stage-at-requires c κs = search needs
 
 mask-requires : tie.Need-mask-requires Inv-loop μ-loop
 mask-requires c κs = search needs
@@ -74,9 +77,9 @@ number-requires-2 c κs = search needs
 loop-holds : tie.Need-loop-holds Inv-loop μ-loop
 loop-holds c =
     let m = c .before .before .before in
-    let a = m .before .before .before .args in
+    let a = m .before .before .before .before .args in
     let few : m .mask .result < 2 ^ 32 = omega (arith, m .mask .ok) in
-    tried-start (now (a .plant)) (bookMask (now (a .book))) (a .state) (nearerIn (now (a .book)) (a .state) (a .goal))
+    tried-start (now (a .plant)) (bookMask (now (a .book))) (a .state) (leadsIn (now (a .book)) (a .early) (a .state) (a .goal))
     (rw (m .mask .ensures) at few)
 
 add-k : tie.Need-add-k Inv-loop μ-loop
@@ -110,7 +113,7 @@ read-at c = c .before .before .before
 tested : (c : tie.After-bit-at Inv-loop μ-loop)
     → let r = read-at c in
     let n = r .before .before .before .before .before .before .before in
-    let a = n .before .before .before .before .args in
+    let a = n .before .before .before .before .before .args in
     ofMask (plantOf (now (a .plant))) (bookMask (now (a .book))) (r .read .result .action)
     ≡ (ltb (r .read .result .action) (n .number .result) && c .bit-at .result)
 unfolding plantOf
@@ -131,7 +134,7 @@ loop-again-2 c = tried-move (here (read-at (c .before))) (tested (c .before) ∙
 -- past the test it is of the mask
 in-service : (c : tie.Else2 Inv-loop μ-loop)
     → let r = read-at (c .before) in
-    let a = r .before .before .before .before .before .before .before .before .before .before .before .args in
+    let a = r .before .before .before .before .before .before .before .before .before .before .before .before .args in
     ofMask (plantOf (now (a .plant))) (bookMask (now (a .book))) (r .read .result .action) ≡ true
 in-service c = tested (c .before) ∙ not-false _ (c .if2 .left)
 
@@ -153,16 +156,17 @@ else-at c = c .before .before .before
 
 near : (c : tie.After-nearer Inv-loop μ-loop)
     → let r = read-at (else-at c .before) in
-    let a = r .before .before .before .before .before .before .before .before .before .before .before .args in
-    isIn (r .read .result .to) (nearerIn (now (a .book)) (a .state) (a .goal)) ≡ c .nearer .result
+    let a = r .before .before .before .before .before .before .before .before .before .before .before .before .args in
+    isIn (r .read .result .to) (leadsIn (now (a .book)) (a .early) (a .state) (a .goal)) ≡ c .nearer .result
 near c =
     let r = read-at (else-at c .before) in
     let w = r .before .before .before .before .before .before in
-    let a = w .before .before .before .before .before .args in
-    nearer-is (now (a .book)) (a .state) (a .goal) (r .read .result .to)
+    let a = w .before .before .before .before .before .before .args in
+    leads-is (now (a .book)) (a .early) (a .state) (a .goal) (r .read .result .to)
     ∙ sym
     (c .nearer .ensures
-    ∙ ap (λ (v : ℕ). nearerThan (now (a .book)) v (a .goal) (r .read .result .to)) (w .wait-at .ensures))
+    ∙ ap₂ (λ (v w : ℕ). nearerThan (now (a .book)) v w (a .goal) (a .early) (r .read .result .to))
+    (w .before .before .before .stage-at .ensures) (w .wait-at .ensures))
 
 loop-less-3 : tie.Need-loop-less-3 Inv-loop μ-loop
 loop-less-3 c = search needs
@@ -198,6 +202,7 @@ moves-into-spec =
     (tie.spec
     Inv-loop
     μ-loop
+    stage-at-requires
     mask-requires
     number-requires
     wait-at-requires

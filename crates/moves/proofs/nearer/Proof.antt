@@ -21,24 +21,38 @@ returns : tie.Need-returns
 unfolding bookStates
 returns c =
     let a = c .before .before .before .args in
-    sym (nearer-past (now (a .book)) (a .wait) (a .goal) (a .end) (omega (arith, c .before .number .ensures)))
+    sym (nearer-past (now (a .book)) (a .stage) (a .wait) (a .goal) (a .early) (a .end)
+    (omega (arith, c .before .number .ensures)))
 
-is-lost-requires : tie.Need-is-lost-requires
-is-lost-requires c κs = search needs
+stage-at-requires : tie.Need-stage-at-requires
+stage-at-requires c κs = search needs
 
 wait-at-requires : tie.Need-wait-at-requires
 wait-at-requires c κs = search needs
 
+is-lost-requires : tie.Need-is-lost-requires
+is-lost-requires c κs = search needs
+
 returns-2 : tie.Need-returns-2
 unfolding bookStates
 returns-2 c =
-    let n = c .before .before .before in
+    let n = c .before .before .before .before in
     let a = n .before .before .args in
-    ap₂ (λ (lost : Bool) (w : ℕ). not lost && (eqb (a .wait) 0 || ltb w (a .wait))) (c .before .is-lost .ensures)
-    (c .wait-at .ensures)
-    ∙ sym (nearer-state (now (a .book)) (a .wait) (a .goal) (a .end) (omega (arith, n .number .ensures)))
+    let near : ℕ → ℕ → Bool = λ v w. ltb v (a .stage)
+    || (not (a .early) && (eqb v (a .stage) && (eqb (a .wait) 0 || ltb w (a .wait)))) in
+    ap₂ (λ (lost near : Bool). not lost && near) (c .is-lost .ensures)
+    (ap₂ near (c .before .before .stage-at .ensures) (c .before .wait-at .ensures))
+    ∙ sym (nearer-state (now (a .book)) (a .stage) (a .wait) (a .goal) (a .early) (a .end)
+    (omega (arith, n .number .ensures)))
 
 pub nearer-spec : {M : Type 1} → statement M
 nearer-spec =
     tie.close
-    (tie.spec number-requires cast-if1 returns is-lost-requires wait-at-requires returns-2)
+    (tie.spec
+    number-requires
+    cast-if1
+    returns
+    stage-at-requires
+    wait-at-requires
+    is-lost-requires
+    returns-2)

@@ -1,6 +1,7 @@
--- `planbook_c::planbook_row` meets its contract: the row of an accepted state starts at its first entry.
+-- `planbook_c::planbook_row` meets its contract: the row of an accepted state stands within the book.
 -- Assumes nothing.
 use mathlib.Core.Path.{_≡_, sym, _∙_}
+use Prim.Native.Nat.{_<_}
 use native.Mathlib.Omega.{arith}
 use denote.Ref.{now}
 use Rattle.statements.specs.Calls.{consultFault}
@@ -21,38 +22,35 @@ returns c =
     part-refused (now (a .book)) (a .state) (c .before .consult-book .result .number)
     (c .before .consult-book .ensures .0 .number) (c .if1 .taken)
 
-entry-place-requires : tie.Need-entry-place-requires
-entry-place-requires c κs = search needs
+row-place-requires : tie.Need-row-place-requires
+row-place-requires c κs = search needs
 
-number-requires : tie.Need-number-requires
-number-requires c κs = search needs
+row-long-requires : tie.Need-row-long-requires
+row-long-requires c κs = search needs
 
 -- past the refusal the call is accepted
-given : (c : tie.After-number) →
+given : (c : tie.After-row-long) →
     let a = c .before .before .before .before .before .args in
     consultFault (now (a .book)) (a .state) 0 ≡ 0
 given c = sym (c .before .before .before .consult-book .ensures .0 .number) ∙ c .before .before .if1 .left
 
-cast-t9 : tie.Need-cast-t9
-cast-t9 c =
+fits : (c : tie.After-row-long) → (c .before .row-place .result < 65536) × (c .row-long .result < 65536)
+fits c =
     let a = c .before .before .before .before .before .args in
-    omega (
-      arith,
-      part-fits (now (a .book)) (a .state) (c .before .entry-place .result) (given c)
-          (c .before .entry-place .ensures),
-    )
+    part-fits (now (a .book)) (a .state) (c .before .row-place .result) (c .row-long .result) (given c)
+    (c .before .row-place .ensures) (c .row-long .ensures)
+
+cast-t9 : tie.Need-cast-t9
+cast-t9 c = omega (arith, fits c .0)
 
 cast-t10 : tie.Need-cast-t10
-cast-t10 c = search needs
-
-mul-t11 : tie.Need-mul-t11
-mul-t11 c = search needs
+cast-t10 c = omega (arith, fits c .1)
 
 returns-2 : tie.Need-returns-2
 returns-2 c =
     let a = c .before .before .before .before .before .args in
-    part-given (now (a .book)) (a .state) (c .before .entry-place .result) (c .number .result) (given c)
-    (c .before .entry-place .ensures) (c .number .ensures)
+    part-given (now (a .book)) (a .state) (c .before .row-place .result) (c .row-long .result) (given c)
+    (c .before .row-place .ensures) (c .row-long .ensures)
 
 pub planbook-row-spec : {M : Type 1} → statement M
 planbook-row-spec =
@@ -61,9 +59,8 @@ planbook-row-spec =
     consult-book-requires
     cast-t8
     returns
-    entry-place-requires
-    number-requires
+    row-place-requires
+    row-long-requires
     cast-t9
     cast-t10
-    mul-t11
     returns-2)

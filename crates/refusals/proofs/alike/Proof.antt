@@ -4,7 +4,7 @@ use mathlib.Core.Path.{ap₂}
 use mathlib.Core.Bool.{Bool, _&&_}
 use lib.Dec.{eqb}
 use Rattle.statements.specs.Plants.{plantOf}
-use Rattle.statements.specs.Books.{bookStates, bookMoves, bookGoals}
+use Rattle.statements.specs.Books.{bookStates, bookMoves, bookGoals, bookTotal}
 use Rattle.statements.specs.Calls.{alike}
 use borrow.Author.Needs.{needs}
 use Rattle.refusals.proofs.alike.Statement.{statement}
@@ -28,14 +28,25 @@ number-requires-5 c κs = search needs
 number-requires-6 : tie.Need-number-requires-6
 number-requires-6 c κs = search needs
 
+number-requires-7 : tie.Need-number-requires-7
+number-requires-7 c κs = search needs
+
+cast-result : tie.Need-cast-result
+cast-result c = search needs
+
+book-long-requires : tie.Need-book-long-requires
+book-long-requires c κs = search needs
+
 returns : tie.Need-returns
-unfolding alike plantOf bookStates bookMoves bookGoals
+unfolding alike plantOf bookStates bookMoves bookGoals bookTotal
 returns c =
-    let n₂ = c .before .before .before .before in
+    let n₆ = c .before .before in
+    let n₂ = n₆ .before .before .before .before in
     ap₂ (λ (t u : Bool). t && u) (ap₂ eqb (n₂ .before .number .ensures) (n₂ .number2 .ensures))
     (ap₂ (λ (t u : Bool). t && u)
-    (ap₂ eqb (c .before .before .before .number3 .ensures) (c .before .before .number4 .ensures))
-    (ap₂ eqb (c .before .number5 .ensures) (c .number6 .ensures)))
+    (ap₂ eqb (n₆ .before .before .before .number3 .ensures) (n₆ .before .before .number4 .ensures))
+    (ap₂ (λ (t u : Bool). t && u) (ap₂ eqb (n₆ .before .number5 .ensures) (n₆ .number6 .ensures))
+    (ap₂ eqb (c .before .number7 .ensures) (c .book-long .ensures))))
 
 pub alike-spec : {M : Type 1} → statement M
 alike-spec =
@@ -47,4 +58,7 @@ alike-spec =
     number-requires-4
     number-requires-5
     number-requires-6
+    number-requires-7
+    cast-result
+    book-long-requires
     returns)

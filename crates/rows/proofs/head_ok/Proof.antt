@@ -4,7 +4,7 @@ use borrow.Author.Needs.{needs}
 use Prim.Native.Nat.{_^_, _<_}
 use native.Mathlib.Omega.{arith}
 use borrow.Author.Tests.{le-leb, lt-leb}
-use Rattle.statements.specs.Books.{bookStates, bookMoves, bookGoals, bookLong, bookHeadOk}
+use Rattle.statements.specs.Books.{bookStates, bookMoves, bookGoals, bookTotal, bookLong, bookHeadOk}
 use Rattle.format.proofs.Words.{product-below}
 use Rattle.rows.proofs.head_ok.Statement.{statement}
 use Rattle.rows.proofs.head_ok.Tie as tie
@@ -58,6 +58,9 @@ add-result c =
     let n : c .before .before .number3 .result < 2 ^ 16 = omega arith in
     omega (arith, product-below 16 16 s n)
 
+staged-requires : tie.Need-staged-requires
+staged-requires c κs = search needs
+
 mask-requires : tie.Need-mask-requires
 mask-requires c κs = search needs
 
@@ -65,17 +68,18 @@ mask-ok-requires : tie.Need-mask-ok-requires
 mask-ok-requires c κs = search needs
 
 returns-2 : tie.Need-returns-2
-unfolding bookHeadOk bookStates bookMoves bookGoals bookLong
+unfolding bookHeadOk bookStates bookMoves bookGoals bookTotal bookLong
 returns-2 c =
     simp (
-      le-leb 16 _ (c .before .before .before .before .before .before .before .if1 .left),
+      le-leb 16 _ (c .before .before .before .before .before .before .before .before .if1 .left),
       c .mask-ok .ensures,
       c .before .mask .ensures,
-      c .before .before .before .before .before .before .number .ensures,
-      c .before .before .before .before .before .number2 .ensures,
-      c .before .before .before .before .number3 .ensures,
-      c .before .before .before .number4 .ensures,
-      c .before .before .number5 .ensures,
+      c .before .before .staged .ensures,
+      c .before .before .before .before .before .before .before .number .ensures,
+      c .before .before .before .before .before .before .number2 .ensures,
+      c .before .before .before .before .before .number3 .ensures,
+      c .before .before .before .before .number4 .ensures,
+      c .before .before .before .number5 .ensures,
     )
 
 pub head-ok-spec : {M : Type 1} → statement M
@@ -95,6 +99,7 @@ head-ok-spec =
     mul-result
     mul-result-2
     add-result
+    staged-requires
     mask-requires
     mask-ok-requires
     returns-2)

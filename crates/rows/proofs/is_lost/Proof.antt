@@ -1,79 +1,20 @@
--- `rows::is_lost` meets its contract. The loop's invariant: `at` is the place of the goal's entry, and the
--- entries from there on stand for the whole row. Assumes nothing.
-use denote.Ref.{now}
-use mathlib.Core.Path.{sym, ap, _∙_}
-use Prim.Native.Nat.{ℕ, _-_}
-use native.Mathlib.Omega.{arith}
+-- `rows::is_lost` meets its contract: whether there are stages is read from the book. Assumes nothing.
 use borrow.Author.Needs.{needs}
-use borrow.Author.Tests.{not-true, not-false}
-use Rattle.statements.specs.Books.{bookGoals, isLost}
-use Rattle.rows.specs.Checks.{lostAt}
-use Rattle.rows.proofs.Rows.{entryPlace, RowLeft, lost-row, row-start, row-pass, row-fail, row-end}
+use denote.Ref.{now}
+use Rattle.rows.proofs.Rows.{lost-known}
 use Rattle.rows.proofs.is_lost.Statement.{statement}
 use Rattle.rows.proofs.is_lost.Tie as tie
 
-abbrev Inv-loop : tie.InvT-loop
-Inv-loop book state goals at₀ goal₀ at goal =
-    RowLeft (lostAt book) goals state (isLost book state) at goal
+staged-requires : tie.Need-staged-requires
+staged-requires c κs = search needs
 
-abbrev μ-loop : tie.MeasureT-loop
-μ-loop book state goals at₀ goal₀ at goal = goals - goal
+lost-in-requires : tie.Need-lost-in-requires
+lost-in-requires c κs = search needs
 
-number-requires : tie.Need-number-requires Inv-loop μ-loop
-number-requires c κs = search needs
-
-entry-place-requires : tie.Need-entry-place-requires Inv-loop μ-loop
-entry-place-requires c κs = search needs
-
-loop-holds : tie.Need-loop-holds Inv-loop μ-loop
-unfolding bookGoals
-loop-holds c =
-    let a = c .before .before .before .args in
-    let n = c .before .number .ensures in
-    row-start (lostAt (now (a .book))) (omega arith) (omega arith)
-    (c .entry-place .ensures ∙ ap (λ (k : ℕ). entryPlace k (a .state) 0) (sym n))
-    (lost-row (now (a .book)) (a .state) _ n)
-
-entry-lost-requires : tie.Need-entry-lost-requires Inv-loop μ-loop
-entry-lost-requires c κs = omega arith
-
-returns : tie.Need-returns Inv-loop μ-loop
+returns : tie.Need-returns
 returns c =
-    let turn = c .before .before in
-    let failed = sym (c .before .entry-lost .ensures) ∙ not-true _ (c .if1 .taken) in
-    sym (row-fail (turn .before .loop .inv) (turn .loop-test .taken) failed)
-
-add-at : tie.Need-add-at Inv-loop μ-loop
-add-at c = omega arith
-
-add-goal : tie.Need-add-goal Inv-loop μ-loop
-add-goal c = omega arith
-
-loop-less : tie.Need-loop-less Inv-loop μ-loop
-loop-less c = omega arith
-
-loop-again : tie.Need-loop-again Inv-loop μ-loop
-loop-again c =
-    let turn = c .before .before in
-    let passed = sym (c .before .entry-lost .ensures) ∙ not-false _ (c .if1 .left) in
-    row-pass (turn .before .loop .inv) (turn .loop-test .taken) passed
-
-returns-2 : tie.Need-returns-2 Inv-loop μ-loop
-returns-2 c = sym (row-end (c .before .loop .inv) (c .loop-test .left))
+    let a = c .before .before .before .args in
+    lost-known (now (a .book)) (a .state) _ _ (c .before .staged .ensures) (c .lost-in .ensures)
 
 pub is-lost-spec : {M : Type 1} → statement M
-is-lost-spec =
-    tie.close
-    (tie.spec
-    Inv-loop
-    μ-loop
-    number-requires
-    entry-place-requires
-    loop-holds
-    entry-lost-requires
-    returns
-    add-at
-    add-goal
-    loop-less
-    loop-again
-    returns-2)
+is-lost-spec = tie.close (tie.spec staged-requires lost-in-requires returns)

@@ -18,7 +18,7 @@ word-at-requires c κs = search needs
 returns : tie.Need-returns
 returns c =
     let a = c .before .before .before .args in
-    c .word-at .ensures ∙ ap (λ (k : ℕ). word 0 (drop k (now (a .book)))) (c .before .entry-place .ensures)
+    c .word-at .ensures ∙ ap (λ (k : ℕ). word 0 (drop k (now (a .book)))) (c .before .entry-place .ensures .0)
     ∙ sym (wait-place (now (a .book)) (a .state) (a .goal))
 
 pub wait-at-spec : {M : Type 1} → statement M

@@ -8,16 +8,17 @@ use native.Mathlib.Omega.{arith}
 use borrow.Author.Needs.{needs}
 use denote.Ref.{now}
 use Rattle.statements.specs.Books.{bookStates}
+use Rattle.rows.proofs.Rows.{lost-known}
 use Rattle.writing.proofs.Drops.{DropsSoFar, short-unlisted, drops-start, drops-place, drops-more, drops-same}
 use Rattle.writing.proofs.Drops.{drops-length, drops-end}
 use Rattle.writing.proofs.dropped.Statement.{statement}
 use Rattle.writing.proofs.dropped.Tie as tie
 
 abbrev Inv-loop : tie.InvT-loop
-Inv-loop before after drops₀ states state₀ at₀ drops state at = DropsSoFar before after drops₀ drops states state at
+Inv-loop before after drops₀ states was now₀ state₀ at₀ drops state at = DropsSoFar before after drops₀ drops states state at
 
 abbrev μ-loop : tie.MeasureT-loop
-μ-loop before after drops₀ states state₀ at₀ drops state at = states - state
+μ-loop before after drops₀ states was now₀ state₀ at₀ drops state at = states - state
 
 number-requires : tie.Need-number-requires Inv-loop μ-loop
 number-requires c κs = search needs
@@ -35,24 +36,31 @@ returns c =
     short-unlisted (now (a .before)) (now (a .after)) (now (a .drops))
     (omega (arith, c .if1 .taken, c .before .number .ensures))
 
+staged-requires : tie.Need-staged-requires Inv-loop μ-loop
+staged-requires c κs = search needs
+
+staged-requires-2 : tie.Need-staged-requires-2 Inv-loop μ-loop
+staged-requires-2 c κs = search needs
+
 loop-holds : tie.Need-loop-holds Inv-loop μ-loop
 unfolding bookStates
 loop-holds c =
-    let a = c .before .before .before .before .before .args in
-    drops-start (now (a .before)) (now (a .after)) (now (a .drops)) _ (c .before .number .ensures) (omega arith)
-    (c .if1 .left)
+    let long = c .before .before in
+    let a = long .before .before .before .before .before .args in
+    drops-start (now (a .before)) (now (a .after)) (now (a .drops)) _ (long .before .number .ensures) (omega arith)
+    (long .if1 .left)
 
-cast-is-lost : tie.Need-cast-is-lost Inv-loop μ-loop
-cast-is-lost c = omega arith
+cast-lost-in : tie.Need-cast-lost-in Inv-loop μ-loop
+cast-lost-in c = omega arith
 
-is-lost-requires : tie.Need-is-lost-requires Inv-loop μ-loop
-is-lost-requires c κs = search needs
+lost-in-requires : tie.Need-lost-in-requires Inv-loop μ-loop
+lost-in-requires c κs = search needs
 
-cast-is-lost-2 : tie.Need-cast-is-lost-2 Inv-loop μ-loop
-cast-is-lost-2 c = omega arith
+cast-lost-in-2 : tie.Need-cast-lost-in-2 Inv-loop μ-loop
+cast-lost-in-2 c = omega arith
 
-is-lost-requires-2 : tie.Need-is-lost-requires-2 Inv-loop μ-loop
-is-lost-requires-2 c κs = search needs
+lost-in-requires-2 : tie.Need-lost-in-requires-2 Inv-loop μ-loop
+lost-in-requires-2 c κs = search needs
 
 put-requires : tie.Need-put-requires Inv-loop μ-loop
 put-requires c κs =
@@ -74,8 +82,11 @@ loop-again : tie.Need-loop-again Inv-loop μ-loop
 loop-again c =
     let m = c .before .before .before .before in
     let more = c .before .before .before .loop-test .taken in
-    let test =
-    ap₂ (λ (t u : Bool). not t && u) (sym (c .before .before .is-lost .ensures)) (sym (c .before .is-lost2 .ensures)) in
+    let a = m .before .before .before .before .before .before .before .before .args in
+    let x = m .loop .state in
+    let was = lost-known (now (a .before)) x _ _ (m .before .before .staged .ensures) (c .before .before .lost-in .ensures) in
+    let is = lost-known (now (a .after)) x _ _ (m .before .staged2 .ensures) (c .before .lost-in2 .ensures) in
+    let test = ap₂ (λ (t u : Bool). not t && u) (sym was) (sym is) in
     ⊎-elim
     (λ w. rw (w .5, w .6) (drops-more (m .loop .inv) more (test ∙ w .0 .taken) (w .2 .ensures)))
     (λ w. rw (w .1, w .2) (drops-same (m .loop .inv) more (test ∙ w .0 .left)))
@@ -100,11 +111,13 @@ dropped-spec =
     cast-if1
     mul-if1
     returns
+    staged-requires
+    staged-requires-2
     loop-holds
-    cast-is-lost
-    is-lost-requires
-    cast-is-lost-2
-    is-lost-requires-2
+    cast-lost-in
+    lost-in-requires
+    cast-lost-in-2
+    lost-in-requires-2
     put-requires
     add-at
     add-state

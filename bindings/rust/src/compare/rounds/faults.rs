@@ -1,8 +1,8 @@
 //! Calls with faults put in, one of them or many at once: the first refusal that applies is returned.
 
-use super::{book_length, invent_book, list_length, masks_in_turn, strip_and_book, Comparison};
+use super::{invent_book, lengths_of, masks_in_turn, strip_and_book, tiny_plant, Comparison};
 use crate::calls::mask_bytes;
-use crate::plants::{self, Random};
+use crate::plants::Random;
 use crate::sys::Answer;
 
 /// What a list of withdrawals or a return takes: a plant with an arrow and fewer than 32 moves, a book for it, a mask
@@ -56,18 +56,18 @@ impl Kind {
 impl Call {
     /// A call on a tiny plant, with a book that nobody made and so many masks.
     fn any(masks: usize, random: &mut Random) -> Call {
-        let mut model = plants::tiny(random);
+        let mut model = tiny_plant(random);
         model.arrows.push([0, 0, 0]); // it may have had none
         let book = invent_book(&model, random);
         let masks = mask_bytes(&masks_in_turn(masks, &model, random));
-        Call { plant: model.bytes(), book, masks, lengths: [book_length(&model), list_length(&model)] }
+        Call { plant: model.bytes(), book, masks, lengths: lengths_of(&model) }
     }
 
     /// Puts in what is refused with this number; `place` says where, or how, if there is a choice.
     fn spoil(&mut self, refusal: u32, place: usize) {
         let (masks, last_arrow) = (self.masks.len() / 4, self.plant.len() - 6);
         match refusal {
-            1 => self.plant[14] = 1,                                  // the last number of the header
+            1 => self.plant[14] = 2,                                  // the last number of the header
             2 => self.plant[17] |= 0x80,                              // bit 15 of the first label
             3 => self.plant[last_arrow + 1 + 2 * (place % 3)] = 0xff, // the high byte of from, move or to
             4 => self.book[12] = 15,                                  // where the rows begin

@@ -1,10 +1,10 @@
 //! Lists of withdrawals: random ones, and all of some kinds on strip plant P.
 
 use super::faults::Kind;
-use super::{any_goal, any_length, any_plant, book_length, few_moves, invent_book, list_length, m9_book, many_moves};
-use super::{strip_and_book, Comparison};
+use super::{any_goal, any_length, any_plant, few_moves, invent_book, lengths_of, m9_book, many_moves};
+use super::{strip_and_book, tiny_plant, Comparison};
 use crate::calls::mask_bytes;
-use crate::plants::{self, Model, Random};
+use crate::plants::{Model, Random};
 
 /// A list of withdrawals, and what it is refused with.
 const LIST: Kind = Kind {
@@ -46,9 +46,9 @@ pub fn any_list(model: &Model, random: &mut Random) -> Vec<u8> {
 /// Lists of withdrawals, from a book that was made and from one that nobody made: one of any number of masks, and any
 /// other from what it leaves; and lists with faults put in.
 pub fn lists_of_withdrawals(comparison: &mut Comparison, random: &mut Random) {
-    let model = if random.once_in(4) { any_plant(random) } else { plants::tiny(random) };
+    let model = if random.once_in(4) { any_plant(random) } else { tiny_plant(random) };
     let plant = model.bytes();
-    let lengths = [book_length(&model), list_length(&model)];
+    let lengths = lengths_of(&model);
     let (_, made) = comparison.make(&plant, many_moves(&model, random), lengths[0]);
     for book in [made, invent_book(&model, random)] {
         let masks = masks_in_turn(random.from_to(0, 16), &model, random);

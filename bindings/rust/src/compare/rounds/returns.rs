@@ -1,12 +1,11 @@
 //! Returns of moves: random ones, and all of some kinds on strip plant P.
 
 use super::faults::Kind;
-use super::{any_goal, any_length, any_plant, book_length, few_moves, invent_book, list_length, m9_book, many_moves};
-use super::{or_too_high, strip_and_book};
+use super::{any_goal, any_length, any_plant, few_moves, invent_book, lengths_of, m9_book, many_moves};
+use super::{or_too_high, strip_and_book, tiny_plant};
 use crate::compare::{in_service, kept_count, Comparison};
 use crate::plants::{self, Model, Random};
 use crate::second::format::{read_masks, together};
-use crate::sys::{LONGEST_BOOK, LONGEST_LIST};
 
 /// A return, and what it is refused with.
 const RETURN: Kind = Kind {
@@ -31,8 +30,8 @@ pub fn moves_back(model: &Model, in_service: u32, random: &mut Random) -> u32 {
 /// A plant and its book with many moves in service; mostly some of its states are kept.
 fn any_made(comparison: &mut Comparison, random: &mut Random) -> (Model, Vec<u8>) {
     let mut any = || {
-        let model = if random.once_in(8) { any_plant(random) } else { plants::tiny(random) };
-        let (_, book) = comparison.make(&model.bytes(), many_moves(&model, random), book_length(&model));
+        let model = if random.once_in(8) { any_plant(random) } else { tiny_plant(random) };
+        let (_, book) = comparison.make(&model.bytes(), many_moves(&model, random), model.book_length());
         (model, book)
     };
     let tried: Option<(Model, Vec<u8>)> = (0..3).map(|_| any()).find(|(_, book)| kept_count(book) != 0);
@@ -44,7 +43,7 @@ fn any_made(comparison: &mut Comparison, random: &mut Random) -> (Model, Vec<u8>
 pub fn returns(comparison: &mut Comparison, random: &mut Random) {
     let (model, made) = any_made(comparison, random);
     let plant = model.bytes();
-    let lengths = [book_length(&model), list_length(&model)];
+    let lengths = lengths_of(&model);
     let withdrawn = few_moves(&model, random) | few_moves(&model, random);
     let (_, rest) = comparison.there_and_back(&plant, &made, withdrawn, lengths);
     for book in [rest, invent_book(&model, random)] {
@@ -107,13 +106,17 @@ pub fn every_combination_of_refusals(comparison: &mut Comparison) {
     RETURN.every_combination(comparison, &[4]);
 }
 
-/// The longest plant, all of whose states are lost without move 0: that comes back, and with it every state, in buffers
-/// that are just long enough and in those that are short by one byte.
+/// The longest plants of both sorts, all of whose states are lost without move 0: that comes back, and with it every
+/// state, in buffers that are just long enough and in those that are short by one byte.
 pub fn longest(comparison: &mut Comparison) {
-    let plant = plants::longest().bytes();
-    let (_, book) = comparison.make(&plant, u32::MAX, LONGEST_BOOK);
-    let (_, rest) = comparison.there_and_back(&plant, &book, 1, [LONGEST_BOOK, LONGEST_LIST]);
-    for lengths in [[LONGEST_BOOK - 1, LONGEST_LIST], [LONGEST_BOOK, LONGEST_LIST - 1]] {
-        comparison.return_moves(&plant, &rest, 1, lengths);
+    let model = plants::longest();
+    for model in [model.clone().settled(|_| true), model] {
+        let plant = model.bytes();
+        let [book_length, list_length] = lengths_of(&model);
+        let (_, book) = comparison.make(&plant, u32::MAX, book_length);
+        let (_, rest) = comparison.there_and_back(&plant, &book, 1, [book_length, list_length]);
+        for lengths in [[book_length - 1, list_length], [book_length, list_length - 1]] {
+            comparison.return_moves(&plant, &rest, 1, lengths);
+        }
     }
 }

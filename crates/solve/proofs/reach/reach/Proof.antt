@@ -17,15 +17,15 @@ use Rattle.solve.proofs.reach.reach.Statement.{statement}
 use Rattle.solve.proofs.reach.reach.Tie as tie
 
 abbrev Inv-loop : tie.InvT-loop
-Inv-loop plant mask _ _ _ _ all _ goal _ _ _ _ _ _ _ waits listed rest count before steps =
-    Going (plantOf plant) mask all goal steps before waits listed rest count
+Inv-loop plant mask _ _ _ _ leave all _ goal _ _ _ _ _ _ _ waits listed rest count before steps =
+    Going (plantOf plant) mask leave all goal steps before waits listed rest count
 
 abbrev μ-loop : tie.MeasureT-loop
-μ-loop _ _ _ _ _ _ _ _ _ _ _ _ _ _ _ _ _ _ _ _ before _ = before
+μ-loop _ _ _ _ _ _ _ _ _ _ _ _ _ _ _ _ _ _ _ _ _ before _ = before
 
 -- the function's entry, seen from the copy, and the copy, seen from the loop
 abbrev entry : tie.After-copy Inv-loop μ-loop → tie.Start Inv-loop μ-loop
-entry c = c .before .before .before .before .before .before .before
+entry c = c .before .before .before .before .before .before .before .before
 
 abbrev copy : tie.At-loop Inv-loop μ-loop → tie.After-copy Inv-loop μ-loop
 copy c = c .before .before
@@ -37,7 +37,7 @@ sized : (s : tie.Start Inv-loop μ-loop)
 sized s = plant-ok (s .args .plant .now) (s .pre .0 .accepted) .sizes
 
 small-goal : (s : tie.Start Inv-loop μ-loop) → s .args .goal ≤ 8
-small-goal s = omega (arith, sized s .goals-most, s .pre .1 .0 .1, s .pre .1 .1 .1 .1 .0)
+small-goal s = omega (arith, sized s .goals-most, s .pre .1 .0 .1, s .pre .1 .1 .1 .1 .0 .0)
 
 slice-aggregate-copy : tie.Need-slice-aggregate-copy Inv-loop μ-loop
 slice-aggregate-copy c = search needs
@@ -57,7 +57,7 @@ loop-holds c =
     let small = sized s .states-most in
     let few : length all ≤ 1024 = omega (arith, small, sifted-few (p .states) all (s .pre .1 .1 .0)) in
     let whole = copied all _ _ (omega (arith, few, length-replicate {A = ℕ} 1024 0)) (copy .copy .ensures) in
-    laws.going-start p (s .args .mask) all (s .args .goal) small (copy .copy .kept .1 .0) whole
+    laws.going-start p (s .args .mask) (s .args .leave .now) all (s .args .goal) small (copy .copy .kept .1 .0) whole
 
 cast-sweep : tie.Need-cast-sweep Inv-loop μ-loop
 cast-sweep c = omega (arith, small-goal (entry (copy (c .before))))
@@ -79,10 +79,10 @@ sweep-requires c κs =
     let p = plantOf (s .args .plant .now) in
     let all = s .args .all .now in
     let small = sized s .states-most in
-    let todo = laws.going-open p (s .args .mask) all (s .args .goal) (pre .1 .1 .0) small (a .loop .inv) in
-    let room = laws.going-room p (s .args .mask) all (s .args .goal) (pre .1 .1 .0) small (a .loop .inv) in
+    let todo = laws.going-open p (s .args .mask) (s .args .leave .now) all (s .args .goal) (pre .1 .1 .0) small (a .loop .inv) in
+    let room = laws.going-room p (s .args .mask) (s .args .leave .now) all (s .args .goal) (pre .1 .1 .0) small (a .loop .inv) in
     let marks : p .states ≤ length (s .args .member .now) = omega (arith, small, pre .1 .1 .1 .0 .1) in
-    (pre .0, (todo, (marks, room .0, room .1, room .2)))
+    (pre .0, (todo, ((marks, room .0, room .1, room .2), pre .1 .1 .1 .1 .1)))
 
 add-steps : tie.Need-add-steps Inv-loop μ-loop
 add-steps c =
@@ -90,7 +90,7 @@ add-steps c =
     let s = entry (copy a) in
     omega (
       arith,
-      laws.going-steps (plantOf (s .args .plant .now)) (s .args .mask) (s .args .all .now) (s .args .goal)
+      laws.going-steps (plantOf (s .args .plant .now)) (s .args .mask) (s .args .leave .now) (s .args .all .now) (s .args .goal)
           (s .pre .1 .1 .0) (sized s .states-most) (a .loop .inv),
     )
 
@@ -102,8 +102,8 @@ loop-again c =
     let sweep = c .before .before .before .sweep in
     let t = c .before .before .before .before .before .before .before in
     let s = entry (copy (t .before)) in
-    let kept = sweep .kept .1 .1 .1 .1 .1 .1 .1 .1 in
-    laws.going-again (plantOf (s .args .plant .now)) (s .args .mask) (s .args .all .now) (s .args .goal)
+    let kept = sweep .kept .1 .1 .1 .1 .1 .1 .1 .1 .1 in
+    laws.going-again (plantOf (s .args .plant .now)) (s .args .mask) (s .args .leave .now) (s .args .all .now) (s .args .goal)
     (s .pre .1 .1 .0) (sized s .states-most) (t .before .loop .inv) (s .pre .0 .none-is) (s .pre .1 .1 .1 .0 .0)
     (t .loop-test .taken) (kept .0) (kept .1 .0) (kept .1 .1 .0) (sweep .ensures)
 
@@ -127,12 +127,12 @@ returns c =
     let p = plantOf (s .args .plant .now) in
     let sizes = s .pre .1 .0 in
     let set = s .pre .1 .1 .0 in
-    let room = s .pre .1 .1 .1 .1 in
+    let room = s .pre .1 .1 .1 .1 .0 in
     let most = sized s .states-most in
     let inv = end .before .loop .inv in
-    let column = laws.going-end p (s .args .mask) (s .args .all .now) (s .args .goal) inv (end .loop-test .left) in
-    let long = laws.going-room p (s .args .mask) (s .args .all .now) (s .args .goal) set most inv in
-    store-more p (s .args .mask) (s .args .all .now) set most (s .args .goal) (end .before .loop .waits)
+    let column = laws.going-end p (s .args .mask) (s .args .leave .now) (s .args .all .now) (s .args .goal) inv (end .loop-test .left) in
+    let long = laws.going-room p (s .args .mask) (s .args .leave .now) (s .args .all .now) (s .args .goal) set most inv in
+    store-more p (s .args .mask) (s .args .leave .now) (s .args .all .now) set most (s .args .goal) (end .before .loop .waits)
     (end .before .loop .listed) column (s .args .entries .now) (sized s .goals-most)
     (omega (arith, room .0, sizes .1)) (long .0) (long .1)
     (same-room p (s .args .states) (s .args .goals) (s .args .entries .now) (sizes .0) (sizes .1) (room .1))

@@ -14,16 +14,16 @@ use Rattle.solve.proofs.reach.sweep.Statement.{statement}
 use Rattle.solve.proofs.reach.sweep.Tie as tie
 
 abbrev Inv-loop : tie.InvT-loop
-Inv-loop plant mask _ none member goal count steps waits₀ listed₀ rest₀ _ _ waits listed rest k left =
-    let found = stepMove (plantOf plant) mask goal member waits₀ steps in
+Inv-loop plant mask _ none leave member goal count steps waits₀ listed₀ rest₀ _ _ waits listed rest k left =
+    let found = stepMove (plantOf plant) mask goal leave member waits₀ steps in
     Turn found none steps count waits₀ listed₀ rest₀ waits listed rest left k
 
 abbrev μ-loop : tie.MeasureT-loop
-μ-loop _ _ _ _ _ _ count _ _ _ _ _ _ _ _ _ k _ = count - k
+μ-loop _ _ _ _ _ _ _ count _ _ _ _ _ _ _ _ _ k _ = count - k
 
 -- the function's entry, seen from a turn
 abbrev entry : tie.In-loop Inv-loop μ-loop → tie.Start Inv-loop μ-loop
-entry c = c .before .before .before .before .before .before .before .before
+entry c = c .before .before .before .before .before .before .before .before .before
 
 -- the state that is read: one of the plant's
 abbrev state : tie.In-loop Inv-loop μ-loop → ℕ
@@ -32,7 +32,7 @@ state c = getD (c .before .loop .rest) (c .before .loop .k) 0
 in-range : (c : tie.In-loop Inv-loop μ-loop) → state c < plantOf (entry c .args .plant .now) .states
 in-range c =
     let pre = entry c .pre in
-    laws.turn-state (c .before .loop .inv) (pre .1 .1 .3) (pre .1 .0) (c .loop-test .taken)
+    laws.turn-state (c .before .loop .inv) (pre .1 .1 .0 .3) (pre .1 .0) (c .loop-test .taken)
 
 -- its places are within the arrays
 room : (c : tie.In-loop Inv-loop μ-loop)
@@ -40,7 +40,7 @@ room : (c : tie.In-loop Inv-loop μ-loop)
     (state c < length (l .waits)) × (state c < length (l .listed)) × (l .left < length (l .rest))
 room c =
     let pre = entry c .pre .1 in
-    laws.turn-room (c .before .loop .inv) (pre .1 .3) (pre .0) (c .loop-test .taken) (pre .1 .1) (pre .1 .2)
+    laws.turn-room (c .before .loop .inv) (pre .1 .0 .3) (pre .0) (c .loop-test .taken) (pre .1 .0 .1) (pre .1 .0 .2)
 
 loop-holds : tie.Need-loop-holds Inv-loop μ-loop
 loop-holds c = laws.turn-start _ _ _ _ _ _ _
@@ -56,8 +56,8 @@ next-requires c κs =
     let t = c .before .before in
     let pre = entry t .pre in
     let long : plantOf (entry t .args .plant .now) .states ≤ length (t .before .loop .waits) =
-    omega (arith, pre .1 .1 .1, t .before .loop .inv .waits-long) in
-    (pre .0, ((pre .1 .1 .0, long), in-range t))
+    omega (arith, pre .1 .1 .0 .1, t .before .loop .inv .waits-long) in
+    (pre .0, ((pre .1 .1 .0 .0, long), (pre .1 .1 .1, in-range t)))
 
 cast-x : tie.Need-cast-x Inv-loop μ-loop
 cast-x c = omega (arith, room (c .before .before .before .before))
@@ -101,10 +101,10 @@ loop-again c =
     (λ yes. laws.placed-yes (yes .0 .taken) (yes .1) (yes .2) (yes .3) (yes .4))
     (λ no. laws.placed-no (no .0 .left) (no .1) (no .2) (no .3) (no .4))
     (c .if1 .came) in
-    laws.turn-again inv (pre .1 .3) (pre .0) more (pre .1 .1) (pre .1 .2)
-    (step-same (plantOf (s .args .plant .now)) (s .args .mask) (s .args .goal) (s .args .member .now)
+    laws.turn-again inv (pre .1 .0 .3) (pre .0) more (pre .1 .0 .1) (pre .1 .0 .2)
+    (step-same (plantOf (s .args .plant .now)) (s .args .mask) (s .args .goal) (s .args .leave .now) (s .args .member .now)
     (s .args .waits .now) (t .before .loop .waits) (s .args .steps) (state t)
-    (laws.turn-below inv (pre .1 .3) (pre .0) more) (next .next .ensures))
+    (laws.turn-below inv (pre .1 .0 .3) (pre .0) more) (next .next .ensures))
     placed
 
 same-length : tie.Need-same-length Inv-loop μ-loop
@@ -118,8 +118,8 @@ same-length-3 c = c .before .loop .inv .rest-long
 
 returns : tie.Need-returns Inv-loop μ-loop
 returns c =
-    let s = c .before .before .before .before .before .before .before .before in
-    laws.turn-end (c .before .loop .inv) (s .pre .1 .1 .3) (c .loop-test .left)
+    let s = c .before .before .before .before .before .before .before .before .before in
+    laws.turn-end (c .before .loop .inv) (s .pre .1 .1 .0 .3) (c .loop-test .left)
 
 pub sweep-spec : {M : Type 1} → statement M
 sweep-spec =

@@ -13,15 +13,15 @@ use Rattle.solve.proofs.rounds.round.Statement.{statement}
 use Rattle.solve.proofs.rounds.round.Tie as tie
 
 abbrev Inv-loop : tie.InvT-loop
-Inv-loop plant mask _ _ states goals all entries₀ _ _ entries goal =
-    (goal ≤ goals) × Columns (plantOf plant) mask all goal entries × Rest (2 * (states * goals)) entries₀ entries
+Inv-loop plant mask _ _ states goals leave all entries₀ _ _ entries goal =
+    (goal ≤ goals) × Columns (plantOf plant) mask leave all goal entries × Rest (2 * (states * goals)) entries₀ entries
 
 abbrev μ-loop : tie.MeasureT-loop
-μ-loop _ _ _ _ _ goals _ _ _ _ _ goal = goals - goal
+μ-loop _ _ _ _ _ goals _ _ _ _ _ _ goal = goals - goal
 
 -- the function's entry, seen from the loop
 abbrev entry : tie.At-loop Inv-loop μ-loop → tie.Start Inv-loop μ-loop
-entry c = c .before .before .before .before .before .before .before .before
+entry c = c .before .before .before .before .before .before .before .before .before
 
 slice-aggregate-mark : tie.Need-slice-aggregate-mark Inv-loop μ-loop
 slice-aggregate-mark c = search needs
@@ -30,7 +30,7 @@ mark-requires : tie.Need-mark-requires Inv-loop μ-loop
 mark-requires c κs = search needs
 
 loop-holds : tie.Need-loop-holds Inv-loop μ-loop
-loop-holds c = (omega arith, columns-start _ _ _ _, record { long = refl; stays = refl })
+loop-holds c = (omega arith, columns-start _ _ _ _ _, record { long = refl; stays = refl })
 
 slice-aggregate-reach : tie.Need-slice-aggregate-reach Inv-loop μ-loop
 slice-aggregate-reach c = search needs
@@ -42,10 +42,10 @@ reach-requires c κs =
     let pre = s .pre in
     let inv = t .before .loop .inv in
     let set = pre .1 .1 .0 in
-    let rows = pre .1 .1 .1 in
+    let rows = pre .1 .1 .1 .0 in
     let marks = marked (now (s .args .all)) _ (t .before .before .before .mark .ensures) in (
       pre .0,
-      (pre .1 .0, (set, (marks, (t .loop-test .taken, omega (arith, rows, inv .2 .long))))),
+      (pre .1 .0, (set, (marks, ((t .loop-test .taken, omega (arith, rows, inv .2 .long)), pre .1 .1 .1 .1)))),
     )
 
 add-goal : tie.Need-add-goal Inv-loop μ-loop

@@ -9,22 +9,22 @@ use Rattle.statements.specs.Plants.{plantOf}
 use Rattle.decoding.proofs.Faults.{plant-ok}
 use Rattle.solve.specs.Rounds.{Rest}
 use Rattle.solve.proofs.RoundsSets.{rest-then}
-use Rattle.solve.proofs.RoundsKept.{settle-more, settled-count, settled-columns, Settling}
+use Rattle.solve.proofs.RoundsKept.{settle-more, settled-count, settled-columns, settled-list, Settling}
 use Rattle.solve.proofs.rounds.settle.Statement.{statement}
 use Rattle.solve.proofs.rounds.settle.Tie as tie
 
 abbrev Inv-loop : tie.InvT-loop
-Inv-loop plant mask _ _ states goals all₀ count entries₀ _ all entries kept =
-    Settling (plantOf plant) mask (take count all₀) all kept
+Inv-loop plant mask _ _ states goals leave all₀ count entries₀ _ all entries kept =
+    Settling (plantOf plant) mask leave (take count all₀) all kept
     × Rest (2 * (states * goals)) entries₀ entries
     × (length all ≡ length all₀)
 
 abbrev μ-loop : tie.MeasureT-loop
-μ-loop _ _ _ _ _ _ _ _ _ _ _ _ kept = kept
+μ-loop _ _ _ _ _ _ _ _ _ _ _ _ _ kept = kept
 
 -- the places of a turn, from the last back to the first
 abbrev entry : tie.At-loop Inv-loop μ-loop → tie.Start Inv-loop μ-loop
-entry c = c .before .before .before .before .before
+entry c = c .before .before .before .before .before .before
 
 abbrev turn : tie.After-strike Inv-loop μ-loop → tie.At-loop Inv-loop μ-loop
 turn c = c .before .before .before
@@ -34,7 +34,7 @@ small s = plant-ok (now (s .args .plant)) (s .pre .0 .accepted) .sizes .states-m
 
 loop-holds : tie.Need-loop-holds Inv-loop μ-loop
 loop-holds c =
-    let set = c .before .before .before .before .pre .1 .1 .0 in
+    let set = c .before .before .before .before .before .pre .1 .1 .0 in
     (record { fits = set .0; set = set .1; same = refl }, record { long = refl; stays = refl }, refl)
 
 strike-requires : tie.Need-strike-requires Inv-loop μ-loop
@@ -42,13 +42,13 @@ strike-requires c κs =
     let t = c .before .before in
     let pre = entry t .pre in
     let inv = t .loop .inv in
-    let rows = pre .1 .1 .1 in
-    (pre .0, (pre .1 .0, ((inv .0 .fits, inv .0 .set), omega (arith, rows, inv .1 .long))))
+    let rows = pre .1 .1 .1 .0 in
+    (pre .0, (pre .1 .0, ((inv .0 .fits, inv .0 .set), (omega (arith, rows, inv .1 .long), pre .1 .1 .1 .1))))
 
 same-length : tie.Need-same-length Inv-loop μ-loop
 same-length c =
     let strike = c .before .before .before .before .before in
-    strike .strike .kept .1 .1 .1 .1 .1 .1 .0 ∙ turn strike .loop .inv .2
+    strike .strike .kept .1 .1 .1 .1 .1 .1 .1 .0 ∙ turn strike .loop .inv .2
 
 same-length-2 : tie.Need-same-length-2 Inv-loop μ-loop
 same-length-2 c =
@@ -62,11 +62,14 @@ returns c =
     let s = entry (turn strike) in
     let p = plantOf (now (s .args .plant)) in
     let ensures = strike .strike .ensures in (
-      settled-count p (s .args .mask) (small s) _ (l .all) _ (l .kept) _ (l .inv .0) (ensures .0) (c .if1 .taken),
+      settled-count p (s .args .mask) (small s) _ _ (l .all) _ (l .kept) _ (l .inv .0) (ensures .0) (c .if1 .taken),
       (
-        settled-columns p (s .args .mask) (small s) _ (l .all) _ (l .kept) _ (l .inv .0) (ensures .0) (c .if1 .taken) _
+        settled-columns p (s .args .mask) (small s) _ _ (l .all) _ (l .kept) _ (l .inv .0) (ensures .0) (c .if1 .taken) _
             _ (ensures .1 .0),
-        rest-then (l .inv .1) (ensures .1 .1),
+        (
+          rest-then (l .inv .1) (ensures .1 .1),
+          settled-list p (s .args .mask) (small s) _ _ (l .all) _ (l .kept) _ (l .inv .0) (ensures .0) (c .if1 .taken),
+        ),
       ),
     )
 
@@ -80,9 +83,9 @@ loop-again c =
     let s = entry (turn strike) in
     let p = plantOf (now (s .args .plant)) in
     let ensures = strike .strike .ensures in (
-      settle-more p (s .args .mask) (small s) _ (l .all) _ (l .kept) _ (l .inv .0) (ensures .0),
+      settle-more p (s .args .mask) (small s) _ _ (l .all) _ (l .kept) _ (l .inv .0) (ensures .0),
       rest-then (l .inv .1) (ensures .1 .1),
-      strike .strike .kept .1 .1 .1 .1 .1 .1 .0 ∙ l .inv .2,
+      strike .strike .kept .1 .1 .1 .1 .1 .1 .1 .0 ∙ l .inv .2,
     )
 
 pub settle-spec : {M : Type 1} → statement M

@@ -60,6 +60,8 @@ impl Solve for ShortWaits {
     }
 }
 
+mod settling;
+
 /// The good moves of a kept state for a goal, by some rule.
 type Rule = fn(&Plant, &BookView, usize, usize) -> u32;
 
@@ -78,14 +80,16 @@ type Sheet = fn(&Lines, &mut [u8], &mut [u8]) -> Answer;
 /// What a return answers and writes: from the call, the book buffer and the drop buffer.
 type Repair = fn(&Returned, &mut [u8], &mut [u8]) -> Answer;
 
-/// A planner with a goal and a rule of its own for the good moves, a consult of its own, a drop list of which it makes
-/// what it likes, and a preview, a list of withdrawals and a return of its own; all else is right.
+/// A planner with a goal and a rule of its own for the good moves, a consult of its own, a drop list and a book of a
+/// withdrawal of which it makes what it likes, and a preview, a list of withdrawals and a return of its own; all else is
+/// right.
 struct Own {
     name: &'static str,
     aim: Aim,
     rule: Rule,
     ask: Ask,
     list: fn(&mut [[u8; 2]]),
+    patch: fn(&[u8], &mut [u8]),
     look: Look,
     sheet: Sheet,
     repair: Repair,
@@ -106,6 +110,9 @@ impl Calls for Own {
         let mut numbers: Vec<[u8; 2]> = part.chunks_exact(2).map(|pair| [pair[0], pair[1]]).collect();
         (self.list)(&mut numbers);
         part.copy_from_slice(&numbers.concat());
+        if answer.number == 0 {
+            (self.patch)(book, &mut out[..answer.length as usize]);
+        }
         answer
     }
 
@@ -153,10 +160,26 @@ fn all_into(plant: &Plant, mask: u32, state: usize, test: impl Fn(usize) -> bool
     (0..32).filter(|&action| in_mask(mask, action)).filter(good).map(|action| 1 << action).sum()
 }
 
-/// Whether an end meets the rule of document 01 for the entry of a state and a goal.
+/// Whether an end meets the rule of documents 01 and 02 for the entry of a state and a goal, where the stage cannot be
+/// left; without stages all rows are of one.
 fn rule<'a>(book: &'a BookView, state: usize, goal: usize) -> impl Fn(usize) -> bool + 'a {
-    let wait = book.entry(state, goal).0;
-    move |end| book.is_kept(end) && (wait == 0 || book.entry(end, goal).0 < wait)
+    let (wait, stage, earlier) = (book.entry(state, goal).0, book.stage(state), is_earlier(book, state));
+    let nearer = move |end| wait == 0 || book.entry(end, goal).0 < wait;
+    move |end| earlier(end) || book.is_kept(end) && book.stage(end) == stage && nearer(end)
+}
+
+/// Whether an end is of an earlier stage than a state.
+fn is_earlier<'a>(book: &'a BookView, state: usize) -> impl Fn(usize) -> bool + 'a {
+    let stage = book.stage(state);
+    move |end| book.is_kept(end) && book.stage(end) < stage
+}
+
+/// The moves of a mask that leave the stage, or if there are none, those that lead only to where the test holds.
+fn leaving_or(plant: &Plant, book: &BookView, mask: u32, state: usize, test: impl Fn(usize) -> bool) -> u32 {
+    match all_into(plant, mask, state, is_earlier(book, state)) {
+        0 => all_into(plant, mask, state, test),
+        leaving => leaving,
+    }
 }
 
 /// Passes goals one by one, `most` of them at the most, as long as the test holds.
@@ -214,8 +237,9 @@ const RIGHT: Own = Own {
     name: "right",
     aim: |_, book, state, sought| arrive(book, state, sought),
     ask: |book, state, sought| show(book, state, arrive(book, state, sought)),
-    rule: |plant, book, state, goal| all_into(plant, book.mask, state, rule(book, state, goal)),
+    rule: |plant, book, state, goal| leaving_or(plant, book, book.mask, state, rule(book, state, goal)),
     list: |_| {},
+    patch: |_, _| {},
     look: |plant, book, mask, drops| Fast.preview(plant, book, mask, drops),
     sheet: |lines, out, drops| lines.right(out, drops),
     repair: |returned, out, gained| returned.right(out, gained),
@@ -318,9 +342,32 @@ fn in_service(book: &[u8]) -> u32 {
     u32::from(number(book, 8)) | u32::from(number(book, 10)) << 16
 }
 
+/// The states kept in both books, of which each has stages.
+fn kept_in_both<'a>(old: &'a [u8], book: &'a [u8]) -> impl Iterator<Item = u16> + 'a {
+    let staged = BookView::read(old, None).is_ok_and(|old| old.has_stages);
+    (0..number(old, 0)).filter(move |&state| staged && is_kept(old, state) && is_kept(book, state))
+}
+
+/// Puts the old stages in the rows of states that are still kept.
+fn keep_old_stages(old: &[u8], book: &mut [u8]) {
+    for state in kept_in_both(old, &book.to_vec()) {
+        let place = row_of(old, state).start;
+        book[place..place + 2].copy_from_slice(&old[place..place + 2]);
+    }
+}
+
+/// The same for stages that would be earlier than before, as those of a book that was made never are.
+fn raise_to_old_stages(old: &[u8], book: &mut [u8]) {
+    for state in kept_in_both(old, &book.to_vec()) {
+        let place = row_of(old, state).start;
+        let stage = number(old, place).max(number(book, place));
+        book[place..place + 2].copy_from_slice(&stage.to_le_bytes());
+    }
+}
+
 /// The bytes of a state's row.
 fn row_of(book: &[u8], state: u16) -> std::ops::Range<usize> {
-    let length = 4 * usize::from(number(book, 4));
+    let length = (usize::from(number(book, 14)) - 16) / usize::from(number(book, 0));
     let start = 16 + length * usize::from(state);
     start..start + length
 }
@@ -414,23 +461,50 @@ impl Returned<'_> {
 }
 
 /// Planners with one fault each in the rule or in the drop list.
-const WRONG: [Own; 9] = [
+const WRONG: [Own; 16] = [
     wrong_rule("the listed move alone", |_, book, state, goal| 1 << book.entry(state, goal).1),
     wrong_rule("kept not tested at wait 0", |plant, book, state, goal| {
         let good = rule(book, state, goal);
-        all_into(plant, book.mask, state, |end| book.entry(state, goal).0 == 0 || good(end))
+        leaving_or(plant, book, book.mask, state, |end| book.entry(state, goal).0 == 0 || good(end))
     }),
     wrong_rule("the plant's moves for the book's mask", |plant, book, state, goal| {
-        all_into(plant, u32::MAX, state, rule(book, state, goal))
+        leaving_or(plant, book, u32::MAX, state, rule(book, state, goal))
     }),
     wrong_rule("the label's goal for the row's wait", |plant, book, state, goal| {
         let (wait, there) = (book.entry(state, goal).0, plant.in_goal(state, goal));
-        all_into(plant, book.mask, state, |end| book.is_kept(end) && (there || book.entry(end, goal).0 < wait))
+        let nearer = |end| there || book.entry(end, goal).0 < wait;
+        let (earlier, stage) = (is_earlier(book, state), book.stage(state));
+        let beside = |end| book.is_kept(end) && book.stage(end) == stage && nearer(end);
+        leaving_or(plant, book, book.mask, state, |end| earlier(end) || beside(end))
     }),
     wrong_rule("only allowed ends", |plant, book, state, goal| {
         let good = rule(book, state, goal);
-        all_into(plant, book.mask, state, |end| plant.is_allowed(end) && good(end))
+        leaving_or(plant, book, book.mask, state, |end| plant.is_allowed(end) && good(end))
     }),
+    wrong_rule("leaving moves joined with others", |plant, book, state, goal| {
+        all_into(plant, book.mask, state, rule(book, state, goal))
+    }),
+    wrong_rule("leaving asked at wait 0 alone", |plant, book, state, goal| match book.entry(state, goal).0 {
+        0 => leaving_or(plant, book, book.mask, state, rule(book, state, goal)),
+        _ => all_into(plant, book.mask, state, rule(book, state, goal)),
+    }),
+    wrong_rule("waits across stages", |plant, book, state, goal| {
+        let wait = book.entry(state, goal).0;
+        let nearer = |end| wait == 0 || book.entry(end, goal).0 < wait;
+        leaving_or(plant, book, book.mask, state, |end| book.is_kept(end) && nearer(end))
+    }),
+    wrong_rule("later stages at wait 0", |plant, book, state, goal| {
+        let (wait, good) = (book.entry(state, goal).0, rule(book, state, goal));
+        leaving_or(plant, book, book.mask, state, |end| good(end) || wait == 0 && book.is_kept(end))
+    }),
+    wrong_rule("a smaller wait in earlier stages too", |plant, book, state, goal| {
+        let wait = book.entry(state, goal).0;
+        let good = rule(book, state, goal);
+        let nearer = |end| wait == 0 || book.entry(end, goal).0 < wait;
+        leaving_or(plant, book, book.mask, state, |end| good(end) && nearer(end))
+    }),
+    Own { name: "old stages kept in a withdrawal", patch: keep_old_stages, ..RIGHT },
+    Own { name: "stages that never fall kept", patch: raise_to_old_stages, ..RIGHT },
     wrong_list("dropped states by falling number", |list| list.reverse()),
     wrong_list("dropped states by their bytes", |list| list.sort_unstable()),
     wrong_list("dropped states high byte first", |list| list.iter_mut().for_each(|number| number.reverse())),
@@ -823,4 +897,8 @@ fn wrong_planners_are_found() {
     // Consult takes no plant.
     check_found(WRONG_ASKS.iter().map(|planner| beside_fast(planner)), "in consult, state ");
     check_found(WRONG_ASKS[..UNSTEADY_ASKS].iter().map(beside_itself), ", book ");
+    // In plants that must settle alone.
+    compare(&settling::Settling::<0>, &Fast);
+    check_found(settling::flawed().into_iter().map(beside_fast), ", plant ");
+    check_found(settling::LENIENT.iter().map(|planner| beside_fast(planner)), " differ at call ");
 }

@@ -1,23 +1,23 @@
--- `rows::is_held` meets its contract. The loop's invariant: `at` is the place of the goal's entry, and the
+-- `rows::entries_held` meets its contract. The loop's invariant: `at` is the place of the goal's entry, and the
 -- entries from there on stand for the whole row. Assumes nothing.
 use denote.Ref.{now}
-use mathlib.Core.Path.{sym, ap, _∙_}
-use Prim.Native.Nat.{ℕ, _-_}
+use mathlib.Core.Path.{sym, _∙_}
+use Prim.Native.Nat.{_-_}
 use native.Mathlib.Omega.{arith}
 use borrow.Author.Needs.{needs}
 use borrow.Author.Tests.{not-true, not-false}
-use Rattle.statements.specs.Books.{bookMoves, bookGoals, isHeld}
-use Rattle.rows.specs.Checks.{heldAt}
-use Rattle.rows.proofs.Rows.{entryPlace, RowLeft, held-row, row-start, row-pass, row-fail, row-end}
-use Rattle.rows.proofs.is_held.Statement.{statement}
-use Rattle.rows.proofs.is_held.Tie as tie
+use Rattle.statements.specs.Books.{bookMoves, bookGoals}
+use Rattle.rows.specs.Checks.{heldAt, entryIn, entriesHeld}
+use Rattle.rows.proofs.Rows.{RowLeft, held-row, row-start, row-pass, row-fail, row-end}
+use Rattle.rows.proofs.entries_held.Statement.{statement}
+use Rattle.rows.proofs.entries_held.Tie as tie
 
 abbrev Inv-loop : tie.InvT-loop
-Inv-loop book state goals moves mask at₀ goal₀ at goal =
-    RowLeft (heldAt book moves mask) goals state (isHeld book state) at goal
+Inv-loop book stages state goals moves mask at₀ goal₀ at goal =
+    RowLeft (heldAt book moves mask) goals (entryIn stages book state 0) (entriesHeld stages book state) at goal
 
 abbrev μ-loop : tie.MeasureT-loop
-μ-loop book state goals moves mask at₀ goal₀ at goal = goals - goal
+μ-loop book stages state goals moves mask at₀ goal₀ at goal = goals - goal
 
 number-requires : tie.Need-number-requires Inv-loop μ-loop
 number-requires c κs = search needs
@@ -28,17 +28,16 @@ number-requires-2 c κs = search needs
 mask-requires : tie.Need-mask-requires Inv-loop μ-loop
 mask-requires c κs = search needs
 
-entry-place-requires : tie.Need-entry-place-requires Inv-loop μ-loop
-entry-place-requires c κs = search needs
+entry-in-requires : tie.Need-entry-in-requires Inv-loop μ-loop
+entry-in-requires c κs = search needs
 
 loop-holds : tie.Need-loop-holds Inv-loop μ-loop
 unfolding bookGoals bookMoves
 loop-holds c =
     let a = c .before .before .before .before .before .args in
     let n = c .before .before .before .number .ensures in
-    row-start (heldAt (now (a .book)) _ _) (omega arith) (omega arith)
-    (c .entry-place .ensures ∙ ap (λ (k : ℕ). entryPlace k (a .state) 0) (sym n))
-    (held-row (now (a .book)) (a .state) _ _ _ n (c .before .before .number2 .ensures) (c .before .mask .ensures))
+    row-start (heldAt (now (a .book)) _ _) (omega arith) (omega (arith, c .entry-in .ensures)) (c .entry-in .ensures .0)
+    (held-row (a .stages) (now (a .book)) (a .state) _ _ _ n (c .before .before .number2 .ensures) (c .before .mask .ensures))
 
 entry-held-requires : tie.Need-entry-held-requires Inv-loop μ-loop
 entry-held-requires c κs = omega arith
@@ -67,8 +66,8 @@ loop-again c =
 returns-2 : tie.Need-returns-2 Inv-loop μ-loop
 returns-2 c = sym (row-end (c .before .loop .inv) (c .loop-test .left))
 
-pub is-held-spec : {M : Type 1} → statement M
-is-held-spec =
+pub entries-held-spec : {M : Type 1} → statement M
+entries-held-spec =
     tie.close
     (tie.spec
     Inv-loop
@@ -76,7 +75,7 @@ is-held-spec =
     number-requires
     number-requires-2
     mask-requires
-    entry-place-requires
+    entry-in-requires
     loop-holds
     entry-held-requires
     returns
