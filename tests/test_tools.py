@@ -420,7 +420,7 @@ class Build(Case):
     def test_progress_is_told(self) -> None:
         self.builds()
         lines = self.lists(1).splitlines()
-        self.assertRegex(lines[0], "^run: proving and building planbook; this takes .* minutes")
+        self.assertRegex(lines[0], "^run: proving and building planbook; this may take .* minutes")
         self.assertEqual(lines[1:], ["run: 1 of 3 proved: laws", "run: 2 of 3 proved: rows",
                                      "run: 3 of 3 proved: planbook"])
         self.write("top/crates/rows/source", b"more")
