@@ -497,8 +497,9 @@ class Build(Case):
         os.symlink(str(shutil.which("id")), self.path("few/id"))
         env = {"PATH": few}
         call = [self.path("few/bash"), self.path("top/run"), self.example("strip"), "7"]
-        self.fails(3, "python3 is needed for plants in the text form, and is not on the PATH", *call, env=env)
+        self.call(*call, env=env)
         self.assertFalse(os.path.exists(self.path("installed")))
+        self.fails(3, "python3 is needed for plants in the text form, and is not on the PATH", *call, env=env)
 
 
 # A plant whose listing is longer than 60 KiB: every state kept for 8 goals.

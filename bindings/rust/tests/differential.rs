@@ -73,7 +73,7 @@ fn exhaustive_rounds() {
 
 #[test]
 fn random_rounds() {
-    let calls = std::env::var("PLANBOOK_CALLS").map_or(200_000, |word| word.parse().expect("a number of calls"));
+    let calls = std::env::var("PLANBOOK_CALLS").map_or(300_000, |word| word.parse().expect("a number of calls"));
     // In all rounds together, how many consults pass goals, and how many find all of several goals served; in how many
     // lists of withdrawals one after the first drops states, and in how many two or more do; and how many returns list
     // states, and how many have lost a state that the book handed in keeps.

@@ -208,7 +208,7 @@ fn brute_force_agrees_on_invented_books() {
     for seed in 0..20_000 {
         let random = &mut Random::new(seed);
         let model = if seed % 2 == 0 { plants::tiny(random) } else { plants::tiny_settled(random) };
-        if is_little(&model, 1_000.0) {
+        if is_little(&model, 1_500.0) {
             rounds::withdrawals_from_invented(&mut comparison, &model, random);
             tried += 1;
         }

@@ -578,7 +578,7 @@ fn check_set(
 }
 
 /// How far a walk goes.
-const STEPS: usize = 1_500;
+const STEPS: usize = 3_000;
 
 /// What was seen on walks.
 #[derive(Default)]
