@@ -2,7 +2,7 @@
 -- Assumes nothing.
 use mathlib.Core.Path.{_≡_, refl, sym, ap, _∙_}
 use mathlib.Core.Bool.{Bool, true, _&&_, not, and-comm}
-use mathlib.Core.List.{List}
+use mathlib.Core.List.{List, []}
 use Prim.Native.Nat.{ℕ, _-_, _*_, _≤_}
 use native.Mathlib.Omega.{arith}
 use lib.ListN.{length, take}
@@ -87,21 +87,6 @@ pub made-fits : (p : Plant) (mask : ℕ) {long : ℕ} (room : ℕ) → bookRoom 
 unfolding madeBook
 made-fits p mask room h e = omega (arith, e, within-length p mask (allowed p), book-fits p room h)
 
--- what make answers
-module _ (s : List ℕ) (mask : ℕ) (o : List ℕ) where
-  -- refused
-  pub make-refused : (n : ℕ) {r : Answer} → r ≡ record { number = n; length = 0; drops = 0 }
-      → n ≡ makeFault s mask (length o) → (n ≡ 0 → ⊥) → MakeSays s mask o o r
-  make-refused n e en h =
-      let no = ne-eqb n 0 h in
-      rw e (record { number = en; length-is = rw no; drops = refl; book = rw no })
-
-  -- accepted: its book is written
-  pub make-done : (long : ℕ) {o′ : List ℕ} → makeFault s mask (length o) ≡ 0
-      → long ≡ length (madeBook (plantOf s) mask) → o′ ≡ over (madeBook (plantOf s) mask) o
-      → MakeSays s mask o o′ (record { number = 0; length = long; drops = 0 })
-  make-done long e el eo = record { number = sym e; length-is = el; drops = refl; book = eo }
-
 -- what a call that writes a book and lists states answers when it is refused
 pub writes-refused : (n number : ℕ) (after listed o d : List ℕ) {r : Answer}
     → r ≡ record { number = n; length = 0; drops = 0 } → n ≡ number → (n ≡ 0 → ⊥)
@@ -116,6 +101,21 @@ writes-refused n number after listed o d e en h =
       book = rw no;
       list = rw no;
     })
+
+-- what make answers
+module _ (s : List ℕ) (mask : ℕ) (o : List ℕ) where
+  -- refused
+  pub make-refused : (n : ℕ) {r : Answer} → r ≡ record { number = n; length = 0; drops = 0 }
+      → n ≡ makeFault s mask (length o) → (n ≡ 0 → ⊥) → MakeSays s mask o o r
+  make-refused n e en h = record { writes = writes-refused n _ _ _ o [] e en h }
+
+  -- accepted: its book is written
+  pub make-done : (long : ℕ) {o′ : List ℕ} → makeFault s mask (length o) ≡ 0
+      → long ≡ length (madeBook (plantOf s) mask) → o′ ≡ over (madeBook (plantOf s) mask) o
+      → MakeSays s mask o o′ (record { number = 0; length = long; drops = 0 })
+  unfolding over bytesOf
+  make-done long e el eo =
+      record { writes = record { number = sym e; length-is = el; drops = refl; book = eo; list = refl } }
 
 -- what withdraw answers
 module _ (s b : List ℕ) (gone : ℕ) (o d : List ℕ) where

@@ -7,8 +7,14 @@ mod withdraw;
 use promises::Answer;
 use promises::Cost;
 ghost use mathlib.Core.Path.{_≡_};
+ghost use Rattle.statements.specs.Demands.{Demand-2, Demand-3, In-turn, Returning};
 ghost use Rattle.promises.specs.Says.{MakeSays, WithdrawSays, WithdrawListSays, ReturnSays, PreviewSays};
-ghost use Rattle.promises.specs.Demands.{Demands};
+ghost use Rattle.promises.specs.Says.{Listed, Determined};
+ghost use Rattle.promises.specs.Written.{Demand-2-written};
+ghost use Rattle.promises.specs.Previews.{Previews};
+ghost use Rattle.promises.specs.Traces.{Demand-3-traced};
+ghost use Rattle.promises.specs.InTurn.{In-turn-traced};
+ghost use Rattle.promises.specs.Returning.{Returning-traced};
 
 // The answer of a call that is refused.
 fn refused(number: u8) -> Answer
@@ -24,7 +30,11 @@ fn refused(number: u8) -> Answer
 // Takes a plant, a mask and a book buffer. Writes the book and returns its length.
 pub fn make_book(plant: &[u8], mask: u32, out: &mut [u8]) -> Answer
     ensures { λ r. ⌜ MakeSays (now (plant .entry)) mask (now (out .entry)) (now (out .exit)) r ⌝ }
-    ensures demands { λ _. ⌜ Demands ⌝ }
+    ensures make_right { λ _. ⌜ Demand-2 ⌝ }
+    ensures make_written { λ _. ⌜ Demand-2-written ⌝ }
+    ensures make_afresh { λ _. ⌜ Demand-3 ⌝ }
+    ensures make_traced { λ _. ⌜ Demand-3-traced ⌝ }
+    ensures make_determined { λ _. ⌜ Determined ⌝ }
 {
     let fault = refusals::make(plant, mask, out.len());
     if fault != 0 {
@@ -49,7 +59,12 @@ pub fn withdraw_moves(
 ) -> Answer
     ensures { λ r. ⌜ WithdrawSays (now (plant .entry)) (now (book .entry)) mask
         (now (out .entry)) (now (out .exit)) (now (drops .entry)) (now (drops .exit)) r ⌝ }
-    ensures demands { λ _. ⌜ Demands ⌝ }
+    ensures withdraw_right { λ _. ⌜ Demand-2 ⌝ }
+    ensures withdraw_written { λ _. ⌜ Demand-2-written ⌝ }
+    ensures withdraw_afresh { λ _. ⌜ Demand-3 ⌝ }
+    ensures withdraw_traced { λ _. ⌜ Demand-3-traced ⌝ }
+    ensures withdraw_listed { λ _. ⌜ Listed ⌝ }
+    ensures withdraw_determined { λ _. ⌜ Determined ⌝ }
 {
     let fault = refusals::withdraw(plant, book, mask, out.len(), drops.len());
     if fault != 0 {
@@ -71,7 +86,12 @@ pub fn withdraw_list(
 ) -> Answer
     ensures { λ r. ⌜ WithdrawListSays (now (plant .entry)) (now (book .entry)) (now (masks .entry))
         (now (out .entry)) (now (out .exit)) (now (drops .entry)) (now (drops .exit)) r ⌝ }
-    ensures demands { λ _. ⌜ Demands ⌝ }
+    ensures list_written { λ _. ⌜ Demand-2-written ⌝ }
+    ensures list_afresh { λ _. ⌜ Demand-3 ⌝ }
+    ensures list_traced { λ _. ⌜ Demand-3-traced ⌝ }
+    ensures list_in_turn { λ _. ⌜ In-turn ⌝ }
+    ensures list_in_turn_traced { λ _. ⌜ In-turn-traced ⌝ }
+    ensures list_determined { λ _. ⌜ Determined ⌝ }
 {
     let fault = refusals::withdraw_list(plant, book, masks, out.len(), drops.len());
     if fault != 0 {
@@ -92,7 +112,12 @@ pub fn return_moves(
 ) -> Answer
     ensures { λ r. ⌜ ReturnSays (now (plant .entry)) (now (book .entry)) mask
         (now (out .entry)) (now (out .exit)) (now (gained .entry)) (now (gained .exit)) r ⌝ }
-    ensures demands { λ _. ⌜ Demands ⌝ }
+    ensures return_written { λ _. ⌜ Demand-2-written ⌝ }
+    ensures return_afresh { λ _. ⌜ Demand-3 ⌝ }
+    ensures return_traced { λ _. ⌜ Demand-3-traced ⌝ }
+    ensures return_back { λ _. ⌜ Returning ⌝ }
+    ensures return_back_traced { λ _. ⌜ Returning-traced ⌝ }
+    ensures return_determined { λ _. ⌜ Determined ⌝ }
 {
     let fault = refusals::withdraw(plant, book, mask, out.len(), gained.len());
     if fault != 0 {
@@ -114,7 +139,8 @@ pub fn return_moves(
 pub fn preview_withdrawal(plant: &[u8], book: &[u8], mask: u32, drops: &mut [u8]) -> Cost
     ensures { λ r. ⌜ PreviewSays (now (plant .entry)) (now (book .entry)) mask
         (now (drops .entry)) (now (drops .exit)) r ⌝ }
-    ensures demands { λ _. ⌜ Demands ⌝ }
+    ensures preview_agrees { λ _. ⌜ Previews ⌝ }
+    ensures preview_determined { λ _. ⌜ Determined ⌝ }
 {
     let mut next = [0u8; 34832];
     let answer = withdraw_moves(plant, book, mask, &mut next, drops);

@@ -9,14 +9,17 @@ ghost use Prim.Native.Nat.{_+_};
 ghost use lib.Dec.{eqb};
 ghost use lib.ListN.{length};
 ghost use Rattle.statements.specs.Calls.{rowPart};
-ghost use Rattle.promises.specs.Says.{accepted, ConsultSays, MovesSays, rowStart};
-ghost use Rattle.promises.specs.Demands.{Demands};
+ghost use Rattle.statements.specs.Demands.{Arriving};
+ghost use Rattle.promises.specs.Says.{accepted, ConsultSays, MovesSays, rowStart, Determined};
+ghost use Rattle.promises.specs.Walks.{Walks};
 
 // Takes a book, a state and the goal sought. Answers lost, or the goal arrived at, where every goal that the state
 // serves is passed from the sought one onward in turn, with its move and its wait.
 pub fn consult_book(book: &[u8], state: u32, goal: u32) -> Advice
     ensures { λ r. ⌜ ConsultSays (now (book .entry)) state goal r ⌝ }
-    ensures demands { λ _. ⌜ Demands ⌝ }
+    ensures consult_arriving { λ _. ⌜ Arriving ⌝ }
+    ensures consult_walks { λ _. ⌜ Walks ⌝ }
+    ensures consult_determined { λ _. ⌜ Determined ⌝ }
 {
     let fault = refusals::consult(book, state, goal);
     if fault != 0 {
@@ -44,7 +47,9 @@ pub fn consult_book(book: &[u8], state: u32, goal: u32) -> Advice
 // arrived at, as a mask; 0 for a lost state.
 pub fn good_moves(plant: &[u8], book: &[u8], state: u32, goal: u32) -> Mask
     ensures { λ r. ⌜ MovesSays (now (plant .entry)) (now (book .entry)) state goal r ⌝ }
-    ensures demands { λ _. ⌜ Demands ⌝ }
+    ensures moves_arriving { λ _. ⌜ Arriving ⌝ }
+    ensures moves_walks { λ _. ⌜ Walks ⌝ }
+    ensures moves_determined { λ _. ⌜ Determined ⌝ }
 {
     let fault = refusals::moves(plant, book, state, goal);
     if fault != 0 {

@@ -303,24 +303,24 @@ module _ (s b : List ℕ) (gone room drops : ℕ) where
       ]
 
 -- once the plant is accepted, a make answers as told from the call alone
-pub make-told : (s : List ℕ) (mask room : ℕ) → plantFault s ≡ 0
-    → makeFault s mask room ≡ toldOf (plantOf s) (makes mask room)
+pub make-told : (s : List ℕ) (mask room drops : ℕ) → plantFault s ≡ 0
+    → makeFault s mask room ≡ toldOf (plantOf s) (makes mask) .number room drops
 unfolding makeFault toldOf
-make-told s mask room h = rw h
+make-told s mask room drops h = rw h
 
 -- and so do a withdrawal, a list of them and a return, once the book is accepted with the plant
 module _ (s b : List ℕ) (room drops : ℕ) (h : lentFault s b ≡ 0) where
   pub withdraw-told : (gone : ℕ)
-      → withdrawFault s b gone room drops ≡ toldOf (plantOf s) (withdraws gone room drops)
+      → withdrawFault s b gone room drops ≡ toldOf (plantOf s) (withdraws gone) .number room drops
   unfolding withdrawFault toldOf
   withdraw-told gone = rw h
 
   pub list-told : (m : List ℕ)
-      → withdrawListFault s b m room drops ≡ toldOf (plantOf s) (withdrawsList m room drops)
+      → withdrawListFault s b m room drops ≡ toldOf (plantOf s) (withdrawsList m) .number room drops
   unfolding withdrawListFault toldOf
   list-told m = rw h
 
   pub return-told : (back : ℕ)
-      → returnFault s b back room drops ≡ toldOf (plantOf s) (returns back room drops)
+      → returnFault s b back room drops ≡ toldOf (plantOf s) (returns back) .number room drops
   unfolding withdrawFault toldOf
   return-told back = rw h

@@ -1,29 +1,33 @@
 -- Demand 2: the books of a making and of a withdrawal from any book are right, being books within a test that holds at
 -- states alone; the drop list is a filter of the states kept before, so that it rises, and the states still kept are
 -- the others. Assumes nothing.
-use mathlib.Core.Path.{_≡_, sym, ap, _∙_}
+use mathlib.Core.Path.{_≡_, sym, ap, _∙_, fun-ext, subst}
 use mathlib.Core.Logic.{_↔_}
-use mathlib.Core.Bool.{true, false, not, _&&_}
+use mathlib.Core.Bool.{true, false, not, _&&_, Bool-set}
+use mathlib.Core.HProp.{hPropExt}
 use mathlib.Core.List.{List}
 use Prim.Native.Nat.{ℕ, _+_, _<_}
 use native.Mathlib.Omega.{arith}
+use native.Mathlib.Bridge.{le-prop}
 use borrow.Author.Tests.{not-true}
 use lib.ListN.{length}
-use Rattle.statements.specs.Sets.{isIn, numbers, filter}
+use Rattle.statements.specs.Sets.{bit, isIn, numbers, filter}
 use Rattle.statements.specs.Plants.{Plant, plantOf, allowed}
 use Rattle.statements.specs.Books.{bookStates, bookCount, bookMask, isLost, bookKept, lessMask, madeBook, keptBefore}
 use Rattle.statements.specs.Books.{withdrawnBook, droppedStates}
 use Rattle.statements.specs.Calls.{withdrawFault}
-use Rattle.statements.specs.Demands.{IsBook, KeptBefore, Rising, Demand-2}
+use Rattle.statements.specs.Demands.{IsBook, KeptBefore, Rising, Right, Demand-2}
 use Rattle.sets.proofs.Tests.{and-true, and-left, and-right, same-test}
 use Rattle.sets.proofs.Members.{filter-holds, filter-in, filter-same, filter-filter, filter-parts, numbers-holds}
 use Rattle.sets.proofs.Members.{numbers-in}
 use Rattle.sets.proofs.Rising.{filter-rises}
 use Rattle.kept.proofs.Kept.{kept-within}
-use Rattle.decoding.proofs.Faults.{book-ok, withdraw-ok}
+use Rattle.decoding.proofs.Faults.{PlantOk, plant-ok, allowed-below, book-ok, withdraw-ok}
 use Rattle.demands.proofs.Plants.{given-made, given-withdrawn}
 use Rattle.demands.proofs.Rows.{lost-kept}
+use Rattle.demands.proofs.Winners.{Within}
 use Rattle.demands.proofs.Books.{is-book, right}
+use Rattle.demands.proofs.Service.{less-names}
 
 -- the states kept in any book
 kept-iff : (b : List ℕ) (x : ℕ) → (isIn x (bookKept b) ≡ true) ↔ ((x < bookStates b) × (isLost b x ≡ false))
@@ -84,15 +88,37 @@ module _ (b other : List ℕ) (same : bookStates b ≡ bookStates other)
   unfolding droppedStates
   parts-add-up = omega (arith, filter-parts (isLost other) (bookKept b), ap length still-kept)
 
+-- the states that a withdrawal may not leave are those at which the solver's test holds
+before-is : (p : Plant) → PlantOk p → (b : List ℕ) → Within (keptBefore p b) ≡ KeptBefore p b
+unfolding keptBefore
+before-is p ok b =
+    fun-ext (λ x. hPropExt (Bool-set (keptBefore p b x) true)
+    (λ q r i. (
+      le-prop (q .0) (r .0) i,
+      Bool-set (allowed p x) true (q .1) (r .1) i,
+      Bool-set (isLost b x) false (q .2) (r .2) i,
+    ))
+    (λ h.
+    let a = and-left (allowed p x) (not (isLost b x)) h in
+    (allowed-below p ok x a, a, not-true (isLost b x) (and-right (allowed p x) (not (isLost b x)) h)))
+    (λ q. and-true (q .1) (ap not (q .2))))
+
 -- the book of an accepted withdrawal
 module _ (s b : List ℕ) (gone room drops : ℕ) (h : withdrawFault s b gone room drops ≡ 0) where
   abbrev After : List ℕ
   After = withdrawnBook (plantOf s) b gone
 
   -- what document 01 says of it
-  new : IsBook (plantOf s) (lessMask (bookMask b) gone) (KeptBefore (plantOf s) b) After
+  new : IsBook (plantOf s) (lessMask (bookMask b) gone) (Within (keptBefore (plantOf s) b)) After
   unfolding withdrawnBook
   new = is-book (given-withdrawn s b gone room drops h)
+
+  withdrawn-right : Right (plantOf s) (lessMask (bookMask b) gone) (KeptBefore (plantOf s) b) After
+  unfolding withdrawnBook
+  withdrawn-right =
+      subst (λ W. Right (plantOf s) (lessMask (bookMask b) gone) W After)
+      (before-is (plantOf s) (plant-ok s (withdraw-ok s b gone room drops h .lent .plant)) b)
+      (right (given-withdrawn s b gone room drops h))
 
   -- a state that the new book keeps was kept before
   kept-before : (x : ℕ) → x < plantOf s .states → isLost After x ≡ false → isLost b x ≡ false
@@ -112,12 +138,9 @@ module _ (s b : List ℕ) (gone room drops : ℕ) (h : withdrawFault s b gone ro
       (λ x hx e. kept-before x (omega (arith, hx, lent .states)) e) in
       omega (arith, parts, new .count, book-ok b (lent .book) .count)
 
-before-iff : (p : Plant) (b : List ℕ) (x : ℕ) → KeptBefore p b x ↔ ((allowed p x ≡ true) × (isLost b x ≡ false))
-unfolding keptBefore
-before-iff p b x = (
-  λ h. (and-left (allowed p x) _ h, not-true (isLost b x) (and-right (allowed p x) _ h)),
-  λ q. and-true (q .0) (ap not (q .1)),
-)
+  -- its moves
+  mask-less : (u : ℕ) → (bit u (bookMask After) ≡ true) ↔ ((bit u (bookMask b) ≡ true) × (bit u gone ≡ false))
+  mask-less u = rw (new .mask-is) (less-names (bookMask b) gone u)
 
 -- demand 2
 pub demand-2 : Demand-2
@@ -125,8 +148,8 @@ unfolding madeBook withdrawnBook
 demand-2 =
     record {
       made = λ s mask room h. right (given-made s mask room h);
-      withdrawn = λ s b gone room drops h. right (given-withdrawn s b gone room drops h);
-      before = before-iff;
+      withdrawn = withdrawn-right;
+      less = mask-less;
       dropped = λ s b gone room drops h x.
           rw (withdraw-ok s b gone room drops h .lent .states) at (dropped-iff b (withdrawnBook (plantOf s) b gone) x);
       rising = dropped-rising;

@@ -10,8 +10,9 @@ use borrow.Author.Tests.{eqb-true}
 use Rattle.statements.specs.Sets.{pick}
 use Rattle.statements.specs.Plants.{Plant, plantOf, plantFault}
 use Rattle.statements.specs.Books.{maskOk, madeBook, masksOf, unionOf, withdrawnList}
-use Rattle.statements.specs.Calls.{makeFault, lentFault, Call, makes, withdraws, withdrawsList, returns, answerOf}
-use Rattle.statements.specs.Calls.{writtenBy, standingAfter, standing, answers, toldOf, told, putBy, inService}
+use Rattle.statements.specs.Calls.{makeFault, lentFault, Ask, Call, makes, withdraws, withdrawsList, returns, effectOf}
+use Rattle.statements.specs.Calls.{answerOf, standingAfter, standing, answers, toldOf, numberTold, told, putAfter}
+use Rattle.statements.specs.Calls.{inService}
 use Rattle.statements.specs.Demands.{Allowed, Right, Demand-3}
 use Rattle.sets.proofs.Tests.{decided, and-true}
 use Rattle.decoding.proofs.Masks.{less-ok, or-ok}
@@ -19,12 +20,19 @@ use Rattle.decoding.proofs.Faults.{plant-ok, make-ok, lent-fine, withdraw-ok, m
 use Rattle.decoding.proofs.Faults.{return-told}
 use Rattle.demands.proofs.Plants.{given-allowed}
 use Rattle.demands.proofs.Books.{right}
+use Rattle.demands.proofs.Service.{in-service}
 use Rattle.demands.proofs.Afresh.{made-same, made-alike, made-accepted, withdrawn-afresh, in-turn-afresh}
 use Rattle.demands.proofs.Afresh.{returned-afresh}
 
--- the moves in service after a call, told from the call alone
-abbrev pub putAfter : Plant → ℕ → Call → ℕ
-putAfter p mask c = pick (eqb (toldOf p c) 0) (putBy mask c) mask
+-- what demand 3 needs of a call on the book of a making: it answers as told from the call alone; what it writes is the
+-- book of a making afresh; and accepted, it puts a mask of the plant's moves in service
+pub record Lawful (s : List ℕ) (mask : ℕ) (ask : Ask) : Type 0 where
+  pub answers-told : (room drops : ℕ) →
+      effectOf s (madeBook (plantOf s) mask) ask .number room drops ≡ toldOf (plantOf s) ask .number room drops
+  pub writes-afresh :
+      effectOf s (madeBook (plantOf s) mask) ask .book ≡ madeBook (plantOf s) (toldOf (plantOf s) ask .put mask)
+  pub puts-moves : (room drops : ℕ) → toldOf (plantOf s) ask .number room drops ≡ 0 →
+      maskOk (plantOf s .moves) (toldOf (plantOf s) ask .put mask) ≡ true
 
 module _ (s : List ℕ) (accepted : plantFault s ≡ 0) where
   module _ (mask : ℕ) (ok : maskOk (plantOf s .moves) mask ≡ true) where
@@ -34,42 +42,47 @@ module _ (s : List ℕ) (accepted : plantFault s ≡ 0) where
         lent-fine s (madeBook (plantOf s) mask) accepted (made-accepted (plantOf s) (plant-ok s accepted) mask ok)
         (made-alike (plantOf s) mask)
 
-    -- so that a call on it answers as told from the call alone
-    pub answer-told : (c : Call) → answerOf s (madeBook (plantOf s) mask) c ≡ toldOf (plantOf s) c
-    unfolding answerOf
-    answer-told (makes new room) = make-told s new room accepted
-    answer-told (withdraws gone room drops) =
-        withdraw-told s (madeBook (plantOf s) mask) room drops made-lent gone
-    answer-told (withdrawsList masks room drops) =
-        list-told s (madeBook (plantOf s) mask) room drops made-lent masks
-    answer-told (returns back room gained) = return-told s (madeBook (plantOf s) mask) room gained made-lent back
+    -- so that every call on it is lawful
+    pub lawful : (ask : Ask) → Lawful s mask ask
+    unfolding toldOf withdrawnList
+    lawful (makes new) =
+        record {
+          answers-told = λ room drops. make-told s new room drops accepted;
+          writes-afresh = refl;
+          puts-moves = λ room drops e. make-ok s new room (make-told s new room drops accepted ∙ e) .mask-ok;
+        }
+    lawful (withdraws gone) =
+        record {
+          answers-told = λ room drops. withdraw-told s (madeBook (plantOf s) mask) room drops made-lent gone;
+          writes-afresh = withdrawn-afresh (plantOf s) (plant-ok s accepted) mask ok gone;
+          puts-moves = λ room drops e. less-ok (plantOf s .moves) mask gone ok;
+        }
+    lawful (withdrawsList masks) =
+        record {
+          answers-told = λ room drops. list-told s (madeBook (plantOf s) mask) room drops made-lent masks;
+          writes-afresh = in-turn-afresh (plantOf s) (plant-ok s accepted) mask ok (masksOf masks);
+          puts-moves = λ room drops e. less-ok (plantOf s .moves) mask (unionOf (masksOf masks)) ok;
+        }
+    lawful (returns back) =
+        record {
+          answers-told = λ room drops. return-told s (madeBook (plantOf s) mask) room drops made-lent back;
+          writes-afresh = returned-afresh (plantOf s) (plant-ok s accepted) mask ok back;
+          puts-moves = λ room drops e.
+              let b = madeBook (plantOf s) mask in
+              let back-ok = withdraw-ok s b back room drops (return-told s b room drops made-lent back ∙ e) .gone-ok in
+              or-ok (plantOf s .moves) mask back ∙ and-true ok back-ok;
+        }
 
-    -- what it writes is the book of a making afresh
-    pub written-afresh :
-        (c : Call) → writtenBy s (madeBook (plantOf s) mask) c ≡ madeBook (plantOf s) (putBy mask c)
-    unfolding writtenBy putBy withdrawnList
-    written-afresh (makes new room) = refl
-    written-afresh (withdraws gone room drops) = withdrawn-afresh (plantOf s) (plant-ok s accepted) mask ok gone
-    written-afresh (withdrawsList masks room drops) =
-        in-turn-afresh (plantOf s) (plant-ok s accepted) mask ok (masksOf masks)
-    written-afresh (returns back room gained) = returned-afresh (plantOf s) (plant-ok s accepted) mask ok back
-
-    -- an accepted call puts a mask of the plant's moves in service
-    put-ok : (c : Call) → toldOf (plantOf s) c ≡ 0 → maskOk (plantOf s .moves) (putBy mask c) ≡ true
-    unfolding putBy
-    put-ok (makes new room) e = make-ok s new room (make-told s new room accepted ∙ e) .mask-ok
-    put-ok (withdraws gone room drops) e = less-ok (plantOf s .moves) mask gone ok
-    put-ok (withdrawsList masks room drops) e = less-ok (plantOf s .moves) mask (unionOf (masksOf masks)) ok
-    put-ok (returns back room gained) e =
-        let b = madeBook (plantOf s) mask in
-        let back-ok = withdraw-ok s b back room gained (return-told s b room gained made-lent back ∙ e) .gone-ok in
-        or-ok (plantOf s .moves) mask back ∙ and-true ok back-ok
+    pub answer-told : (c : Call) → answerOf s (madeBook (plantOf s) mask) c ≡ numberTold (plantOf s) c
+    unfolding answerOf numberTold
+    answer-told c = lawful (c .ask) .answers-told (c .room) (c .drops)
 
     -- any call leaves one there
     pub after-ok : (c : Call) → maskOk (plantOf s .moves) (putAfter (plantOf s) mask c) ≡ true
+    unfolding putAfter numberTold
     after-ok c =
-        elim (decided (eqb (toldOf (plantOf s) c) 0)) [
-          | inl e ↦ rw e (put-ok c (eqb-true (toldOf (plantOf s) c) 0 e))
+        elim (decided (eqb (numberTold (plantOf s) c) 0)) [
+          | inl e ↦ rw e (lawful (c .ask) .puts-moves (c .room) (c .drops) (eqb-true (numberTold (plantOf s) c) 0 e))
           | inr e ↦ rw e ok
         ]
 
@@ -77,11 +90,11 @@ module _ (s : List ℕ) (accepted : plantFault s ≡ 0) where
     pub after-afresh :
         (c : Call) →
         standingAfter s (madeBook (plantOf s) mask) c ≡ madeBook (plantOf s) (putAfter (plantOf s) mask c)
-    unfolding standingAfter
+    unfolding standingAfter putAfter
     after-afresh c =
         rw (answer-told c)
-        (elim (decided (eqb (toldOf (plantOf s) c) 0)) [
-          | inl e ↦ rw e (written-afresh c)
+        (elim (decided (eqb (numberTold (plantOf s) c) 0)) [
+          | inl e ↦ rw e (lawful (c .ask) .writes-afresh)
           | inr e ↦ rw e refl
         ])
 
@@ -121,12 +134,13 @@ module _ (s : List ℕ) (accepted : plantFault s ≡ 0) where
   answers-told mask [] ok = refl
   answers-told mask (c ∷ cs) ok =
       rw (answer-told mask ok c, after-afresh mask ok c)
-      (ap (λ l. toldOf (plantOf s) c ∷ l) (answers-told (putAfter (plantOf s) mask c) cs (after-ok mask ok c)))
+      (ap (λ l. numberTold (plantOf s) c ∷ l) (answers-told (putAfter (plantOf s) mask c) cs (after-ok mask ok c)))
 
 -- demand 3
 pub demand-3 : Demand-3
 demand-3 =
     record {
+      service = in-service;
       as-afresh = afresh;
       right = λ s mask room calls h.
           let ok = make-ok s mask room h in

@@ -15,7 +15,7 @@ use Rattle.statements.specs.Kept.{keptWithin}
 use Rattle.statements.specs.Books.{bookMask, maskAt, maskOk, eachOk, lessMask, keptBefore, bookWithin, withdrawnBook}
 use Rattle.statements.specs.Books.{masksIn, masksOf, unionOf, withdrawnInTurn, withdrawnList}
 use Rattle.statements.specs.Calls.{maskFault, wholeMasks, roomFault, lentFault, withdrawFault, withdrawListFault}
-use Rattle.statements.specs.Calls.{withdraws, answerOf, writtenBy, standingAfter, standing, answers, singles}
+use Rattle.statements.specs.Calls.{withdraws, answerOf, standingAfter, standing, answers, singles}
 use Rattle.statements.specs.Demands.{In-turn}
 use Rattle.sets.proofs.Tests.{decided, and-left, and-right, or-cases}
 use Rattle.sets.proofs.Members.{isIn-none}
@@ -75,8 +75,8 @@ module _ (s : List ℕ) where
 
     -- and its book stands
     single-stands : (b : List ℕ) (gone : ℕ) → lentFault s b ≡ 0 → maskOk (plantOf s .moves) gone ≡ true →
-        standingAfter s b (withdraws gone room drops) ≡ withdrawnBook (plantOf s) b gone
-    unfolding standingAfter answerOf writtenBy
+        standingAfter s b (record { ask = withdraws gone; room = room; drops = drops }) ≡ withdrawnBook (plantOf s) b gone
+    unfolding standingAfter answerOf
     single-stands b gone lent ok = rw (single-accepted b gone lent ok)
 
     -- each is accepted in turn

@@ -9,6 +9,7 @@ pub mod Words
 pub mod Same
 pub mod Picks
 pub mod Books
+pub mod Service
 pub mod Demand2
 pub mod Afresh
 pub mod Demand3

@@ -1,31 +1,46 @@
--- All that the calls are held to. Assumes nothing.
+-- What each public call cites besides its own contract, clause by clause. Assumes nothing.
+use Rattle.statements.specs.Demands.{Arriving, Demand-2, In-turn, Returning, Demand-3}
 use Rattle.winning.proofs.Goals.{arriving}
 use Rattle.demands.proofs.Demand2.{demand-2}
 use Rattle.demands.proofs.Demand3.{demand-3}
 use Rattle.demands.proofs.InTurn.{in-turn}
 use Rattle.demands.proofs.Returning.{returning}
-use Rattle.promises.specs.Demands.{Demands}
+use Rattle.promises.specs.Says.{Listed, Determined}
+use Rattle.promises.specs.Written.{Demand-2-written}
+use Rattle.promises.specs.Previews.{Previews}
+use Rattle.promises.specs.Traces.{Demand-3-traced}
+use Rattle.promises.specs.InTurn.{In-turn-traced}
+use Rattle.promises.specs.Returning.{Returning-traced}
+use Rattle.promises.specs.Walks.{Walks}
 use Rattle.promises.proofs.Listed.{lists-dropped}
 use Rattle.promises.proofs.Previewed.{previewed}
 use Rattle.promises.proofs.Determined.{determined}
 use Rattle.promises.proofs.Traces.{demand-3-traced}
 use Rattle.promises.proofs.InTurn.{in-turn-traced}
 use Rattle.promises.proofs.Returning.{returning-traced}
+use Rattle.promises.proofs.Written.{demand-2-written}
 use Rattle.promises.proofs.Walked.{walks}
 
-pub demands : Demands
-demands =
-    record {
-      second = demand-2;
-      third = demand-3;
-      traced = demand-3-traced;
-      listed = λ s b gone o o′ d d′ r. lists-dropped;
-      previewed = previewed;
-      in-turn = in-turn;
-      in-turn-traced = in-turn-traced;
-      returning = returning;
-      returning-traced = returning-traced;
-      arriving = arriving;
-      walks = walks;
-      determined = determined;
-    }
+pub of-make : Demand-2 × (Demand-2-written × (Demand-3 × (Demand-3-traced × Determined)))
+of-make = (demand-2, (demand-2-written, (demand-3, (demand-3-traced, determined))))
+
+pub of-withdraw : Demand-2 × (Demand-2-written × (Demand-3 × (Demand-3-traced × (Listed × Determined))))
+of-withdraw =
+    (demand-2, (demand-2-written, (demand-3, (demand-3-traced, (record { dropped = lists-dropped }, determined)))))
+
+pub of-withdraw-list :
+    Demand-2-written × (Demand-3 × (Demand-3-traced × (In-turn × (In-turn-traced × Determined))))
+of-withdraw-list = (demand-2-written, (demand-3, (demand-3-traced, (in-turn, (in-turn-traced, determined)))))
+
+pub of-return :
+    Demand-2-written × (Demand-3 × (Demand-3-traced × (Returning × (Returning-traced × Determined))))
+of-return = (demand-2-written, (demand-3, (demand-3-traced, (returning, (returning-traced, determined)))))
+
+pub of-preview : Previews × Determined
+of-preview = (previewed, determined)
+
+pub of-consult : Arriving × (Walks × Determined)
+of-consult = (arriving, (walks, determined))
+
+pub of-moves : Arriving × (Walks × Determined)
+of-moves = (arriving, (walks, determined))

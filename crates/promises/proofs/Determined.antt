@@ -34,9 +34,6 @@ determined =
     record {
       consult = λ h k. same-advice (cc) (cc) (cc) (cc) (cc);
       moves = λ h k. same-mask (cc) (cc);
-      make = λ h k. (same-answer (cc) (cc) (cc), cc);
-      withdraw = λ h k. same-written (h .writes) (k .writes);
-      withdraw-list = λ h k. same-written (h .writes) (k .writes);
-      return-moves = λ h k. same-written (h .writes) (k .writes);
+      writes = λ h k. same-written (h .writes) (k .writes);
       preview = λ h k. (same-cost (cc) (cc) (cc), cc);
     }

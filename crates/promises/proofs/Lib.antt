@@ -6,5 +6,6 @@ pub mod Determined
 pub mod Traces
 pub mod InTurn
 pub mod Returning
+pub mod Written
 pub mod Walked
 pub mod Demands

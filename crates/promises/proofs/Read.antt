@@ -12,14 +12,6 @@ use Rattle.sets.proofs.Over.{over-back}
 use Rattle.promises.specs.declared.Answer.{Answer}
 use Rattle.promises.specs.Says.{MakeSays, Writes}
 
--- the book of an accepted make
-pub made-read : {s o o′ : List ℕ} {mask : ℕ} {r : Answer} → MakeSays s mask o o′ r → r .number ≡ 0
-    → take (r .length) o′ ≡ madeBook (plantOf s) mask
-made-read {s} {o} {o′} {mask} {r} says z =
-    let q = eq-eqb (r .number) 0 z in
-    ap (take (r .length)) (rw q at (says .book))
-    ∙ over-back (madeBook (plantOf s) mask) o (r .length) (rw q at (says .length-is))
-
 -- what an accepted call that writes a book and lists states returns, and leaves in its buffers
 module _ {number-is : ℕ} {after listed o o′ d d′ : List ℕ} {r : Answer}
     (says : Writes number-is after listed o o′ d d′ r) (is-accepted : r .number ≡ 0) where
@@ -38,3 +30,8 @@ module _ {number-is : ℕ} {after listed o o′ d d′ : List ℕ} {r : Answer}
 
   pub list-is : d′ ≡ over (bytesOf listed) d
   list-is = rw (eq-eqb (r .number) 0 is-accepted) at (says .list)
+
+-- the book of an accepted make
+pub made-read : {s o o′ : List ℕ} {mask : ℕ} {r : Answer} → MakeSays s mask o o′ r → r .number ≡ 0
+    → take (r .length) o′ ≡ madeBook (plantOf s) mask
+made-read says z = book-read (says .writes) z

@@ -26,7 +26,7 @@ as-made : {s b o o′ d d′ q q′ : List ℕ} {back : ℕ} {r m : Answer} → 
 as-made {s} {b} {o} {d = d} {q = q} {back = back} {m = m} says z made same =
     let afresh = returning .afresh s b back (length o) (length d) (no-fault (says .writes) z) in
     let mask = bitOr (bookMask b) back in
-    let accepted : m .number ≡ 0 = made .number ∙ ap (makeFault s mask) same ∙ afresh .0 in
+    let accepted : m .number ≡ 0 = made .writes .number ∙ ap (makeFault s mask) same ∙ afresh .0 in
     (accepted, made-read made accepted ∙ sym (afresh .1) ∙ sym (book-read (says .writes) z))
 
 -- a withdrawal from a book of a making, and the return of the same moves, which were all in service

@@ -3,17 +3,18 @@
 use mathlib.Core.Path.{_≡_, refl, sym, _∙_, ap}
 use mathlib.Core.Bool.{Bool, true, false}
 use mathlib.Core.List.{List, [], _∷_}
-use Prim.Native.Nat.{ℕ}
+use Prim.Native.Nat.{ℕ, _≤_}
 use lib.Dec.{eqb}
 use lib.ListN.{length, take}
+use borrow.Author.Tests.{le-leb}
 use Rattle.statements.specs.Sets.{pick, over}
 use Rattle.statements.specs.Plants.{plantOf}
-use Rattle.statements.specs.Books.{madeBook}
-use Rattle.statements.specs.Calls.{makeFault, answerOf, writtenBy, standingAfter, standing, answers}
-use Rattle.demands.proofs.Demand3.{demand-3}
-use Rattle.promises.specs.declared.Answer.{Answer}
-use Rattle.promises.specs.Says.{Writes}
-use Rattle.promises.specs.Traces.{Step, made, withdrew, withdrewList, returned, answerIn, bufferIn, Keeps}
+use Rattle.statements.specs.Books.{bookLong, madeBook}
+use Rattle.statements.specs.Calls.{maskFault, bookRoom, makeFault, effectOf, answerOf, standingAfter, standing}
+use Rattle.statements.specs.Calls.{answers, inService}
+use Rattle.decoding.proofs.Faults.{make-ok}
+use Rattle.demands.proofs.Demand3.{service-ok, demand-3}
+use Rattle.promises.specs.Traces.{Step, Keeps}
 use Rattle.promises.specs.Traces.{nextBook, lastBook, Trace, numbersIn, callOf, callsOf, Begun, bookAfter}
 use Rattle.promises.specs.Traces.{serviceAfter, Demand-3-traced}
 use Rattle.sets.proofs.Over.{over-back}
@@ -26,29 +27,17 @@ standing-is true b written o o′ l e f = rw f (over-back written o l e)
 standing-is false b written o o′ l e f = refl
 
 -- a step answers, and leaves as standing book, what the definitions say of its call
-step-answer : (s b : List ℕ) (c : Step) → Keeps s b c → answerIn c .number ≡ answerOf s b (callOf c)
-unfolding answerIn callOf answerOf
-step-answer s b (made mask o o′ r) k = k .number
-step-answer s b (withdrew gone o o′ d d′ r) k = k .writes .number
-step-answer s b (withdrewList masks o o′ d d′ r) k = k .writes .number
-step-answer s b (returned back o o′ d d′ r) k = k .writes .number
-
--- by a call that writes a book
-written-book : (b : List ℕ) {number : ℕ} {after listed o o′ d d′ : List ℕ} {r : Answer}
-    → Writes number after listed o o′ d d′ r
-    → pick (eqb (r .number) 0) (take (r .length) o′) b ≡ pick (eqb number 0) after b
-written-book b {after = after} {o = o} {o′} {r = r} w =
-    standing-is (eqb (r .number) 0) b after o o′ (r .length) (w .length-is) (w .book)
-    ∙ ap (λ n. pick (eqb n 0) after b) (w .number)
+step-answer : (s b : List ℕ) (c : Step) → Keeps s b c → c .r .number ≡ answerOf s b (callOf c)
+unfolding callOf answerOf
+step-answer s b c k = k .writes .number
 
 step-book : (s b : List ℕ) (c : Step) → Keeps s b c → nextBook b c ≡ standingAfter s b (callOf c)
-unfolding nextBook standingAfter answerIn bufferIn callOf answerOf writtenBy
-step-book s b (made mask o o′ r) k =
-    standing-is (eqb (r .number) 0) b (madeBook (plantOf s) mask) o o′ (r .length) (k .length-is) (k .book)
-    ∙ ap (λ n. pick (eqb n 0) (madeBook (plantOf s) mask) b) (k .number)
-step-book s b (withdrew gone o o′ d d′ r) k = written-book b (k .writes)
-step-book s b (withdrewList masks o o′ d d′ r) k = written-book b (k .writes)
-step-book s b (returned back o o′ d d′ r) k = written-book b (k .writes)
+unfolding nextBook standingAfter callOf answerOf
+step-book s b c k =
+    let w = k .writes in
+    let after = effectOf s b (c .ask) .book in
+    standing-is (eqb (c .r .number) 0) b after (c .o) (c .o′) (c .r .length) (w .length-is) (w .book)
+    ∙ ap (λ n. pick (eqb n 0) after b) (w .number)
 
 -- so does a trace
 pub trace-book : (s b : List ℕ) (cs : List Step) → Trace s b cs → lastBook b cs ≡ standing s b (callsOf cs)
@@ -58,7 +47,7 @@ trace-book s b (c ∷ cs) h =
     trace-book s (nextBook b c) cs (h .1) ∙ ap (λ e. standing s e (callsOf cs)) (step-book s b c (h .0))
 
 pub trace-answers : (s b : List ℕ) (cs : List Step) → Trace s b cs → numbersIn cs ≡ answers s b (callsOf cs)
-unfolding numbersIn answers callsOf
+unfolding numbersIn answers callsOf callOf
 trace-answers s b [] h = refl
 trace-answers s b (c ∷ cs) h =
     rw (step-answer s b c (h .0), trace-answers s (nextBook b c) cs (h .1), step-book s b c (h .0)) refl
@@ -66,7 +55,7 @@ trace-answers s b (c ∷ cs) h =
 -- the first standing book is that of the make
 module _ (s : List ℕ) (t : Begun s) where
   pub fault-zero : makeFault s (t .mask) (length (t .o)) ≡ 0
-  fault-zero = sym (t .says .number) ∙ t .is-accepted
+  fault-zero = sym (t .says .writes .number) ∙ t .is-accepted
 
   first-book : take (t .r .length) (t .o′) ≡ madeBook (plantOf s) (t .mask)
   first-book = made-read (t .says) (t .is-accepted)
@@ -77,12 +66,26 @@ module _ (s : List ℕ) (t : Begun s) where
       trace-book s (take (t .r .length) (t .o′)) (t .steps) (t .goes)
       ∙ ap (λ b. standing s b (callsOf (t .steps))) first-book
 
+  -- a make with the moves in service and enough room is accepted
+  again-accepted : (room : ℕ) → bookLong (plantOf s .settles) (plantOf s .states) (plantOf s .goals) ≤ room →
+      makeFault s (serviceAfter s t) room ≡ 0
+  unfolding makeFault maskFault bookRoom serviceAfter
+  again-accepted room h =
+      let ok = make-ok s (t .mask) (length (t .o)) fault-zero in
+      rw (
+        ok .plant,
+        service-ok s (ok .plant) (t .mask) (callsOf (t .steps)) (ok .mask-ok),
+        le-leb (bookLong (plantOf s .settles) (plantOf s .states) (plantOf s .goals)) room h,
+      )
+
 pub demand-3-traced : Demand-3-traced
 unfolding serviceAfter
 demand-3-traced =
     record {
-      as-afresh = λ s t.
-          book-is s t ∙ demand-3 .as-afresh s (t .mask) (length (t .o)) (callsOf (t .steps)) (fault-zero s t);
+      as-afresh = λ s t. book-is s t ∙ afresh s t;
+      made-again = λ {s} {o} t says h.
+          let z = says .writes .number ∙ again-accepted s t (length o) h in
+          (z, made-read says z ∙ sym (book-is s t ∙ afresh s t));
       right = λ s t.
           rw (book-is s t) (demand-3 .right s (t .mask) (length (t .o)) (callsOf (t .steps)) (fault-zero s t));
       told-alone = λ s t. trace-answers s (take (t .r .length) (t .o′)) (t .steps) (t .goes)
@@ -94,3 +97,8 @@ demand-3-traced =
           (callsOf (u .steps)) (fault-zero s t) (fault-zero s u) in
           (λ h. e .0 (sym (book-is s t) ∙ h ∙ book-is s u), λ h. book-is s t ∙ e .1 h ∙ sym (book-is s u));
     }
+  where
+    afresh : (s : List ℕ) (t : Begun s) →
+        standing s (madeBook (plantOf s) (t .mask)) (callsOf (t .steps)) ≡
+        madeBook (plantOf s) (inService (plantOf s) (t .mask) (callsOf (t .steps)))
+    afresh s t = demand-3 .as-afresh s (t .mask) (length (t .o)) (callsOf (t .steps)) (fault-zero s t)

@@ -1,5 +1,5 @@
 -- Moves taken straight from the calls: by their contracts each step of a walk is a pick from the set of the goal arrived
--- at, and so what is said of picks holds of it. Assumes nothing.
+-- at. So it leads to a kept state, and what is said of picks holds of a walk without end. Assumes nothing.
 use mathlib.Core.Path.{_≡_, sym, _∙_}
 use mathlib.Core.Logic.{inl, inr}
 use mathlib.Core.Bool.{true, false}
@@ -8,27 +8,25 @@ use native.Mathlib.Omega.{arith}
 use Prim.Native.Nat.{ℕ, zero, suc, _<_}
 use lib.ListN.{length, take}
 use borrow.Author.Tests.{eq-eqb}
-use Rattle.statements.specs.Sets.{bit}
+use Rattle.statements.specs.Sets.{bit, lowest, isIn}
 use Rattle.statements.specs.Plants.{plantOf, plantFault, ends, available}
 use Rattle.statements.specs.Books.{bookMask, waitAt, moveAt, isLost, bookFault, arrive, goodMoves}
 use Rattle.statements.specs.Calls.{alike, lentFault, consultFault, numberFault, movesFault}
 use Rattle.statements.specs.Strategies.{Picks, Serves}
 use Rattle.statements.specs.Demands.{Right}
 use Rattle.winning.proofs.Goals.{arrive-below, arrive-again}
-use Rattle.sets.proofs.Tests.{and-true}
-use Rattle.decoding.proofs.Faults.{plant-ok, arrow-range, make-ok, lent-fine, withdraw-ok, first-iff}
+use Rattle.sets.proofs.Tests.{and-true, not-both}
+use Rattle.sets.proofs.Bits.{bit-none}
+use Rattle.decoding.proofs.Faults.{plant-ok, arrow-range, make-ok, lent-ok, lent-fine, withdraw-ok, list-parts, first-iff}
 use Rattle.decoding.proofs.Asked as asked
-use Rattle.demands.proofs.Demand2.{demand-2}
-use Rattle.demands.proofs.Returning.{returning}
 use Rattle.promises.specs.declared.Advice.{Advice}
-use Rattle.promises.specs.declared.Answer.{Answer}
 use Rattle.promises.specs.declared.Mask.{Mask}
-use Rattle.promises.specs.Says.{accepted, keeps, ConsultSays, MovesSays, WithdrawSays, ReturnSays}
-use Rattle.promises.specs.Walks.{Walk, Walked, Walking, Walks}
-use Rattle.promises.proofs.Read.{no-fault, book-read}
+use Rattle.promises.specs.Says.{accepted, keeps, ConsultSays, MovesSays}
+use Rattle.promises.specs.Walks.{Taken, WalksTo, Answered, Walk, Walked, Walking, Walks}
+use Rattle.promises.proofs.Read.{no-fault}
 use Rattle.promises.proofs.Determined.{determined}
 use Rattle.promises.proofs.Traces.{fault-zero, demand-3-traced}
-use Rattle.promises.proofs.InTurn.{accepted-one}
+use Rattle.promises.proofs.Written.{demand-2-written}
 
 -- what consult answers for a kept state, once it is accepted
 module _ {b : List ℕ} {x i : ℕ} {r : Advice} (says : ConsultSays b x i r) (fine : consultFault b x i ≡ 0)
@@ -61,11 +59,18 @@ module _ {s b : List ℕ} {x i : ℕ} {m : Mask} (says : MovesSays s b x i m) (f
 -- a book that is right for an accepted plant
 module _ (s : List ℕ) {b : List ℕ} {mask : ℕ} {within : ℕ → Type 0} (plant : plantFault s ≡ 0)
     (right : Right (plantOf s) mask within b) where
-  -- the calls are accepted for every state and goal
-  module _ (x i : ℕ) (hx : x < plantOf s .states) (hi : i < plantOf s .goals) where
+  -- where a walk is: in a kept state, seeking a goal
+  record At (x i : ℕ) : Type 0 where
+    state : x < plantOf s .states
+    kept : isLost b x ≡ false
+    goal : i < plantOf s .goals
+
+  module _ {x i : ℕ} (at : At x i) where
+    -- the calls are accepted there
     consult-accepted : consultFault b x i ≡ 0
     consult-accepted =
-        asked.is-fine b x i (right .accepted) (rw (right .is-book .states) hx) (rw (right .is-book .goals) hi)
+        asked.is-fine b x i (right .accepted) (rw (right .is-book .states) (at .state))
+        (rw (right .is-book .goals) (at .goal))
 
     moves-accepted : movesFault s b x i ≡ 0
     unfolding movesFault alike consultFault
@@ -80,118 +85,117 @@ module _ (s : List ℕ) {b : List ℕ} {mask : ℕ} {within : ℕ → Type 0} (p
 
     -- the goal arrived at is one of the plant's
     arrived : arrive b x i < plantOf s .goals
-    arrived = rw (right .is-book .goals) at (arrive-below b x i (rw (right .is-book .goals) hi))
+    arrived = rw (right .is-book .goals) at (arrive-below b x i (rw (right .is-book .goals) (at .goal)))
 
-  module _ (states goals moves : ℕ → ℕ) (advice : ℕ → Advice) (walk : Walk s b states goals moves advice) where
-    -- where a walk is: in a kept state, seeking a goal
-    record At (n : ℕ) : Type 0 where
-      state : states n < plantOf s .states
-      kept : isLost b (states n) ≡ false
-      goal : goals n < plantOf s .goals
+    -- the listed move is good, and the lowest of the good ones
+    listed : let at-goal = arrive b x i in
+        (bit (moveAt b x at-goal) (goodMoves (plantOf s) b x at-goal) ≡ true) ×
+        (moveAt b x at-goal ≡ lowest (plantOf s .moves) (goodMoves (plantOf s) b x at-goal))
+    listed = right .listed x (arrive b x i) (at .state) arrived (at .kept)
 
-    module _ (n : ℕ) (at : At n) where
-      -- consult is accepted there
-      fine-at : consultFault b (states n) (goals n) ≡ 0
-      fine-at = consult-accepted (states n) (goals n) (at .state) (at .goal)
+    -- a good move is available
+    good-available : (u : ℕ) → bit u (goodMoves (plantOf s) b x (arrive b x i)) ≡ true →
+        available (plantOf s) (bookMask b) x u ≡ true
+    good-available u h =
+        rw (right .is-book .mask-is) (right .safe x (arrive b x i) u (at .state) arrived h .is-available)
 
-      -- the move answered is good, and so available
-      listed-at :
-          let i = arrive b (states n) (goals n) in
-          bit (advice n .action) (goodMoves (plantOf s) b (states n) i) ≡ true
-      listed-at =
-          let a = arrived (states n) (goals n) (at .state) (at .goal) in
-          rw (action-is (walk .consulted n) fine-at (at .kept))
-          (right .listed (states n) (arrive b (states n) (goals n)) (at .state) a (at .kept) .0)
+    -- what the calls answer
+    answered : Answered s b x i
+    answered =
+        record {
+          state = at .state;
+          goal = at .goal;
+          advised = λ says. (
+            says .number ∙ consult-accepted,
+            not-lost says consult-accepted (at .kept),
+            rw (action-is says consult-accepted (at .kept)) (good-available _ (listed .0)),
+          );
+          masked = λ says. (
+            number-is says moves-accepted,
+            λ e. not-both (rw (sym (mask-is says moves-accepted) ∙ e) at (listed .0)) (bit-none _),
+          );
+        }
 
-      available-at : available (plantOf s) (bookMask b) (states n) (advice n .action) ≡ true
-      available-at =
-          let a = arrived (states n) (goals n) (at .state) (at .goal) in
-          let i = arrive b (states n) (goals n) in
-          rw (right .is-book .mask-is)
-          (right .safe (states n) i (advice n .action) (at .state) a listed-at .is-available)
-
+    -- a step of the walk
+    module _ {r : Advice} (says : ConsultSays b x i r) {u : ℕ} (taken : Taken s b x i r u) where
       -- the move taken is good
-      good-at : bit (moves n) (goodMoves (plantOf s) b (states n) (arrive b (states n) (goals n))) ≡ true
-      good-at =
-          elim (walk .taken n) [
-            | inl e ↦ rw e listed-at
-            | inr m ↦ rw (mask-is (m .1) (moves-accepted (states n) (goals n) (at .state) (at .goal))) at (m .2)
+      good-taken : bit u (goodMoves (plantOf s) b x (arrive b x i)) ≡ true
+      good-taken =
+          elim taken [
+            | inl e ↦ rw (e ∙ action-is says consult-accepted (at .kept)) (listed .0)
+            | inr m ↦ rw (mask-is (m .1) moves-accepted) at (m .2)
           ]
 
-      -- the goal sought next is the one arrived at
-      seeks-at : goals (suc n) ≡ arrive b (states n) (goals n)
-      seeks-at = walk .seeks n ∙ seek-is (walk .consulted n) fine-at (at .kept)
-
-      -- and the next state is kept
-      next-at : At (suc n)
+      -- and leads to a kept state; the goal sought there is the one arrived at
+      next : (y : ℕ) → isIn y (ends (plantOf s) x u) ≡ true → At y (r .seek)
       unfolding ends
-      next-at =
+      next y leads =
           let p = plantOf s in
-          let a = arrived (states n) (goals n) (at .state) (at .goal) in
-          let meets = right .safe (states n) (arrive b (states n) (goals n)) (moves n) (at .state) a good-at in
+          let meets = right .safe x (arrive b x i) u (at .state) arrived good-taken in
           let state =
-          arrow-range (p .arrows) (p .states) (p .moves) 0 (states n) (moves n) (states (suc n))
-          (plant-ok s plant .arrows-ok) (walk .leads n) .1 in
+          arrow-range (p .arrows) (p .states) (p .moves) 0 x u y (plant-ok s plant .arrows-ok) leads .1 in
           record {
             state = state;
-            kept = right .is-book .kept (states (suc n)) state .1 (meets .ends-well (states (suc n)) (walk .leads n));
-            goal = rw seeks-at a;
+            kept = right .is-book .kept y state .1 (meets .ends-well y leads);
+            goal = rw (seek-is says consult-accepted (at .kept)) arrived;
           }
 
-    module _ (begun : At 0) where
-      -- it is there at each moment
-      always : (n : ℕ) → At n
-      always zero = begun
-      always (suc n) = next-at n (always n)
+  -- where a walk of some steps has come to
+  comes-to : (n x i y j : ℕ) → At x i → WalksTo s b n x i y j → At y j
+  comes-to zero x i y j at w = rw (w .0, w .1) at
+  comes-to (suc n) x i y j at w = comes-to n (w .2) (w .0 .seek) y j (next at (w .3) (w .4) (w .2) (w .5)) (w .6)
 
-      -- each move is a pick from the set
-      picks : Picks (plantOf s) b states goals moves
-      picks =
-          record {
-            good = λ n. good-at n (always n);
-            leads = walk .leads;
-            seeks = λ n. seeks-at n (always n);
-          }
+  module _ (states goals moves : ℕ → ℕ) (advice : ℕ → Advice) (walk : Walk s b states goals moves advice)
+      (begun : At (states 0) (goals 0)) where
+    -- where a walk without end is at each moment
+    always : (n : ℕ) → At (states n) (goals n)
+    always zero = begun
+    always (suc n) =
+        rw (walk .seeks n) (next (always n) (walk .consulted n) (walk .taken n) (states (suc n)) (walk .leads n))
 
-      serves : Serves (plantOf s) b states goals
-      serves = right .picks states goals moves (begun .goal) picks
+    -- what consult answers there
+    fine-at : (n : ℕ) → consultFault b (states n) (goals n) ≡ 0
+    fine-at n = consult-accepted (always n)
 
-      walked : Walked s b states goals advice
-      walked =
-          record {
-            answered = λ n.
-                let fine = fine-at n (always n) in
-                (walk .consulted n .number ∙ fine, not-lost (walk .consulted n) fine (always n .kept));
-            goes-on = λ n. available-at n (always n);
-            masked = λ n m says.
-                let at = always n in
-                let fine = moves-accepted (states n) (goals n) (at .state) (at .goal) in
-                let a = arrived (states n) (goals n) (at .state) (at .goal) in
-                let i = arrive b (states n) (goals n) in (
-                  number-is says fine,
-                  rw (mask-is says fine)
-                      (action-is (walk .consulted n) (fine-at n at) (at .kept)
-                      ∙ right .listed (states n) i (at .state) a (at .kept) .1),
-                );
-            passed = serves .passed;
-            in-time = λ n.
-                let at = always n in
-                rw (
-                  wait-is (walk .consulted n) (fine-at n at) (at .kept),
-                  seek-is (walk .consulted n) (fine-at n at) (at .kept),
-                )
-                (serves .in-time n);
-            again = serves .again;
-            one-stage = λ e n m l.
-                omega (
-                  arith,
-                  l,
-                  right .is-book .one-stage e (states (suc m)),
-                  right .is-book .one-stage e (states n),
-                );
-            no-later = serves .no-later;
-            few = serves .few;
-          }
+    seeks-at : (n : ℕ) → advice n .seek ≡ arrive b (states n) (goals n)
+    seeks-at n = seek-is (walk .consulted n) (fine-at n) (always n .kept)
+
+    -- each move is a pick from the set
+    picks : Picks (plantOf s) b states goals moves
+    picks =
+        record {
+          good = λ n. good-taken (always n) (walk .consulted n) (walk .taken n);
+          leads = walk .leads;
+          seeks = λ n. walk .seeks n ∙ seeks-at n;
+        }
+
+    serves : Serves (plantOf s) b states goals
+    serves = right .picks states goals moves (begun .goal) picks
+
+    walked : Walked s b states goals advice
+    walked =
+        record {
+          answered = λ n. let a = answered (always n) .advised (walk .consulted n) in (a .0, a .1);
+          goes-on = λ n. answered (always n) .advised (walk .consulted n) .2;
+          masked = λ n m says. (
+            answered (always n) .masked says .0,
+            rw (mask-is says (moves-accepted (always n)))
+                (action-is (walk .consulted n) (fine-at n) (always n .kept) ∙ listed (always n) .1),
+          );
+          passed = serves .passed;
+          in-time = λ n.
+              rw (wait-is (walk .consulted n) (fine-at n) (always n .kept), seeks-at n) (serves .in-time n);
+          again = serves .again;
+          one-stage = λ e n m l.
+              omega (
+                arith,
+                l,
+                right .is-book .one-stage e (states (suc m)),
+                right .is-book .one-stage e (states n),
+              );
+          no-later = serves .no-later;
+          few = serves .few;
+        }
 
 -- an accepted consult, and one for the goal arrived at
 module _ (b : List ℕ) (x i : ℕ) (fine : consultFault b x i ≡ 0) where
@@ -244,35 +248,29 @@ module _ {b : List ℕ} {x i : ℕ} {r : Advice} (says : ConsultSays b x i r) (z
 walking :
     (s : List ℕ) {b : List ℕ} {mask : ℕ} {within : ℕ → Type 0} → plantFault s ≡ 0 →
     Right (plantOf s) mask within b → Walking s b
-walking s plant right states goals moves advice hx kept hi walk =
-    walked s plant right states goals moves advice walk (record { state = hx; kept = kept; goal = hi })
-
--- by the book of an accepted withdrawal
-withdrawn-walks :
-    {s b o o′ d d′ : List ℕ} {gone : ℕ} {r : Answer} → WithdrawSays s b gone o o′ d d′ r → r .number ≡ 0 →
-    Walking s (take (r .length) o′)
-withdrawn-walks {s} {b} {o} {o′} {d} {d′} {gone} says z =
-    let fault = no-fault (says .writes) z in
-    walking s (withdraw-ok s b gone (length o) (length d) fault .lent .plant)
-    (rw (← book-read (says .writes) z) at (demand-2 .withdrawn s b gone (length o) (length d) fault))
-
--- by the book of an accepted return
-returned-walks :
-    {s b o o′ d d′ : List ℕ} {back : ℕ} {r : Answer} → ReturnSays s b back o o′ d d′ r → r .number ≡ 0 →
-    Walking s (take (r .length) o′)
-returned-walks {s} {b} {o} {o′} {d} {d′} {back} says z =
-    let fault = no-fault (says .writes) z in
-    walking s (withdraw-ok s b back (length o) (length d) fault .lent .plant)
-    (rw (← book-read (says .writes) z) at (returning .right s b back (length o) (length d) fault))
+walking s plant right =
+    record {
+      after = λ n x i y j hx kept hi w.
+          answered s plant right
+          (comes-to s plant right n x i y j (record { state = hx; kept = kept; goal = hi }) w);
+      for-ever = λ states goals moves advice hx kept hi walk.
+          walked s plant right states goals moves advice walk (record { state = hx; kept = kept; goal = hi });
+    }
 
 pub walks : Walks
 walks =
     record {
       standing = λ s t.
           walking s (make-ok s (t .mask) (length (t .o)) (fault-zero s t) .plant) (demand-3-traced .right s t);
-      withdrawn = withdrawn-walks;
-      withdrawn-list = λ says z. withdrawn-walks (accepted-one says z) z;
-      returned = returned-walks;
+      withdrawn = λ {s} {b} {o} {o′} {d} {d′} {gone} says z.
+          walking s (withdraw-ok s b gone (length o) (length d) (no-fault (says .writes) z) .lent .plant)
+          (demand-2-written .withdrawn says z);
+      withdrawn-list = λ {s} {b} {masks = m} {o} {o′} {d} says z.
+          walking s (lent-ok s b (list-parts s b m (length o) (length d) (no-fault (says .writes) z) .0) .plant)
+          (demand-2-written .withdrawn-list says z);
+      returned = λ {s} {b} {o} {o′} {d} {d′} {back} says z.
+          walking s (withdraw-ok s b back (length o) (length d) (no-fault (says .writes) z) .lent .plant)
+          (demand-2-written .returned says z);
       same-advice = λ {b} {x} {i} says z k again.
           determined .consult (consult-again b x i (fine-said says z k) (rw (seek-said says z k) at again)) says;
       same-mask = λ {s} {b} {x} {i} says z k asked again.

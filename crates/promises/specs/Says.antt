@@ -2,10 +2,10 @@
 use mathlib.Core.Path.{_≡_}
 use mathlib.Core.Logic.{_↔_}
 use mathlib.Core.Bool.{Bool, true, false, _&&_, not}
-use mathlib.Core.List.{List}
+use mathlib.Core.List.{List, []}
 use Prim.Native.Nat.{ℕ, _+_, _*_, _<_}
 use lib.Dec.{eqb}
-use lib.ListN.{length, drop}
+use lib.ListN.{length, take, drop}
 use Rattle.promises.specs.declared.Advice.{Advice}
 use Rattle.promises.specs.declared.Answer.{Answer}
 use Rattle.promises.specs.declared.Cost.{Cost}
@@ -13,9 +13,9 @@ use Rattle.promises.specs.declared.Mask.{Mask}
 use Rattle.statements.specs.Sets.{pick, over, isIn}
 use Rattle.statements.specs.Plants.{words, plantOf}
 use Rattle.statements.specs.Books.{bytesOf, bookCount, rowPlace, waitAt, moveAt, isLost, arrive, goodMoves}
-use Rattle.statements.specs.Books.{madeBook, withdrawnBook, withdrawnList, returnedBook, droppedStates, gainedStates}
-use Rattle.statements.specs.Calls.{consultFault, movesFault, makeFault, withdrawFault, withdrawListFault, returnFault}
-use Rattle.statements.specs.Calls.{previewFault}
+use Rattle.statements.specs.Books.{withdrawnBook, droppedStates}
+use Rattle.statements.specs.Calls.{consultFault, movesFault, previewFault, Ask, makes, withdraws, withdrawsList}
+use Rattle.statements.specs.Calls.{returns, effectOf}
 use Rattle.statements.specs.Demands.{Rising}
 
 -- a call on a book is accepted
@@ -46,15 +46,6 @@ pub record MovesSays (s b : List ℕ) (x i : ℕ) (r : Mask) : Type 0 where
 unfoldable pub rowStart : List ℕ → ℕ → ℕ
 rowStart b x = pick (accepted b x 0) (rowPlace b x) 0
 
--- making the book of a plant's bytes s with a mask, in a book buffer that holds o before and o′ after: the number is 1,
--- 2, 3, 6, 7 or 0; an accepted call writes the book from the buffer's first byte on and returns its length; a refused
--- one writes nothing and has 0 in every other field
-pub record MakeSays (s : List ℕ) (mask : ℕ) (o o′ : List ℕ) (r : Answer) : Type 0 where
-  pub number : r .number ≡ makeFault s mask (length o)
-  pub length-is : r .length ≡ pick (eqb (r .number) 0) (length (madeBook (plantOf s) mask)) 0
-  pub drops : r .drops ≡ 0
-  pub book : o′ ≡ pick (eqb (r .number) 0) (over (madeBook (plantOf s) mask) o) o
-
 -- a call that answers a number, and if that is 0 writes a book and a list of states, each from its buffer's first byte
 -- on, and returns the book's length and how many states are listed; a refused one writes nothing and has 0 in every
 -- other field. The book buffer holds o before and o′ after, the buffer for the list, which is the drop buffer, d before
@@ -66,24 +57,25 @@ pub record Writes (number-is : ℕ) (after listed o o′ d d′ : List ℕ) (r :
   pub book : o′ ≡ pick (eqb (r .number) 0) (over after o) o
   pub list : d′ ≡ pick (eqb (r .number) 0) (over (bytesOf listed) d) d
 
--- withdrawing moves from a book b: the number is 1 to 7 or 0, and the states listed are the dropped ones, rising
-pub record WithdrawSays (s b : List ℕ) (gone : ℕ) (o o′ d d′ : List ℕ) (r : Answer) : Type 0 where
+-- what a call that writes a book promises: the effect of what it asks for, on a plant's bytes s and a book b
+pub record Says (s b : List ℕ) (ask : Ask) (o o′ d d′ : List ℕ) (r : Answer) : Type 0 where
   pub writes :
-      let after = withdrawnBook (plantOf s) b gone in
-      Writes (withdrawFault s b gone (length o) (length d)) after (droppedStates b after) o o′ d d′ r
+      let does = effectOf s b ask in
+      Writes (does .number (length o) (length d)) (does .book) (does .list) o o′ d d′ r
 
--- withdrawing a list of masks: the number is 1 to 5, 9, 6, 7 or 0, and the states listed are those kept at the start
--- and lost at the end, rising
-pub record WithdrawListSays (s b masks o o′ d d′ : List ℕ) (r : Answer) : Type 0 where
-  pub writes :
-      let after = withdrawnList (plantOf s) b masks in
-      Writes (withdrawListFault s b masks (length o) (length d)) after (droppedStates b after) o o′ d d′ r
+-- a make has no book handed in and no buffer for a list: its number is 1, 2, 3, 6, 7 or 0
+abbrev pub MakeSays : List ℕ → ℕ → List ℕ → List ℕ → Answer → Type 0
+MakeSays s mask o o′ r = Says s [] (makes mask) o o′ [] [] r
 
--- returning moves to a book b: the number is 1 to 7 or 0, and the states listed are those kept now and not in b, rising
-pub record ReturnSays (s b : List ℕ) (back : ℕ) (o o′ d d′ : List ℕ) (r : Answer) : Type 0 where
-  pub writes :
-      let after = returnedBook (plantOf s) b back in
-      Writes (returnFault s b back (length o) (length d)) after (gainedStates b after) o o′ d d′ r
+-- a withdrawal, of a mask and of a list, and a return: 1 to 7, 1 to 5, 9, 6, 7, and 1 to 7, or 0
+abbrev pub WithdrawSays : List ℕ → List ℕ → ℕ → List ℕ → List ℕ → List ℕ → List ℕ → Answer → Type 0
+WithdrawSays s b gone o o′ d d′ r = Says s b (withdraws gone) o o′ d d′ r
+
+abbrev pub WithdrawListSays : List ℕ → List ℕ → List ℕ → List ℕ → List ℕ → List ℕ → List ℕ → Answer → Type 0
+WithdrawListSays s b masks o o′ d d′ r = Says s b (withdrawsList masks) o o′ d d′ r
+
+abbrev pub ReturnSays : List ℕ → List ℕ → ℕ → List ℕ → List ℕ → List ℕ → List ℕ → Answer → Type 0
+ReturnSays s b back o o′ d d′ r = Says s b (returns back) o o′ d d′ r
 
 -- previewing a withdrawal: the number is 1 to 7 or 0; an accepted call writes the states that the withdrawal would
 -- drop, as it would, and returns their number and K of the book that it would write; a refused one writes nothing and
@@ -105,19 +97,17 @@ pub record Lists (s one other d d′ : List ℕ) (n : ℕ) : Type 0 where
   pub size : length d′ ≡ length d
   pub past : drop (2 * n) d′ ≡ drop (2 * n) d
 
+-- the drop list of every accepted withdrawal is such a list
+pub record Listed : Type 0 where
+  pub dropped : {s b o o′ d d′ : List ℕ} {gone : ℕ} {r : Answer} → WithdrawSays s b gone o o′ d d′ r →
+      r .number ≡ 0 → Lists s b (take (r .length) o′) d d′ (r .drops)
+
 -- nothing is left open: what is handed in, the buffers' bytes included, fixes each answer and the buffers' bytes
 -- afterwards
 pub record Determined : Type 0 where
   pub consult : {b : List ℕ} {x i : ℕ} {r r′ : Advice} → ConsultSays b x i r → ConsultSays b x i r′ → r ≡ r′
   pub moves : {s b : List ℕ} {x i : ℕ} {r r′ : Mask} → MovesSays s b x i r → MovesSays s b x i r′ → r ≡ r′
-  pub make : {s o o′ o″ : List ℕ} {mask : ℕ} {r r′ : Answer} →
-      MakeSays s mask o o′ r → MakeSays s mask o o″ r′ → (r ≡ r′) × (o′ ≡ o″)
-  pub withdraw : {s b o o′ o″ d d′ d″ : List ℕ} {gone : ℕ} {r r′ : Answer} →
-      WithdrawSays s b gone o o′ d d′ r → WithdrawSays s b gone o o″ d d″ r′ → (r ≡ r′) × (o′ ≡ o″) × (d′ ≡ d″)
-  pub withdraw-list : {s b masks o o′ o″ d d′ d″ : List ℕ} {r r′ : Answer} →
-      WithdrawListSays s b masks o o′ d d′ r → WithdrawListSays s b masks o o″ d d″ r′ →
-      (r ≡ r′) × (o′ ≡ o″) × (d′ ≡ d″)
-  pub return-moves : {s b o o′ o″ d d′ d″ : List ℕ} {back : ℕ} {r r′ : Answer} →
-      ReturnSays s b back o o′ d d′ r → ReturnSays s b back o o″ d d″ r′ → (r ≡ r′) × (o′ ≡ o″) × (d′ ≡ d″)
+  pub writes : {s b : List ℕ} {ask : Ask} {o o′ o″ d d′ d″ : List ℕ} {r r′ : Answer} →
+      Says s b ask o o′ d d′ r → Says s b ask o o″ d d″ r′ → (r ≡ r′) × (o′ ≡ o″) × (d′ ≡ d″)
   pub preview : {s b d d′ d″ : List ℕ} {gone : ℕ} {c c′ : Cost} →
       PreviewSays s b gone d d′ c → PreviewSays s b gone d d″ c′ → (c ≡ c′) × (d′ ≡ d″)

@@ -3,48 +3,33 @@
 use mathlib.Core.Path.{_≡_}
 use mathlib.Core.Logic.{_↔_}
 use mathlib.Core.List.{List, [], _∷_}
-use Prim.Native.Nat.{ℕ}
+use Prim.Native.Nat.{ℕ, _≤_}
 use lib.Dec.{eqb}
 use lib.ListN.{length, take}
 use Rattle.promises.specs.declared.Answer.{Answer}
 use Rattle.statements.specs.Sets.{pick}
 use Rattle.statements.specs.Plants.{plantOf}
-use Rattle.statements.specs.Books.{madeBook}
-use Rattle.statements.specs.Calls.{Call, makes, withdraws, withdrawsList, returns, told, inService}
+use Rattle.statements.specs.Books.{bookLong, madeBook}
+use Rattle.statements.specs.Calls.{Ask, Call, told, inService}
 use Rattle.statements.specs.Demands.{Allowed, Right}
-use Rattle.promises.specs.Says.{MakeSays, WithdrawSays, WithdrawListSays, ReturnSays}
+use Rattle.promises.specs.Says.{Says, MakeSays}
 
--- a call that went: its mask, or its masks' bytes, its book buffer before and after, for withdrawals and returns its
--- drop buffer before and after, and its answer
-pub data Step : Type 0 where
-  made : (mask : ℕ) (o o′ : List ℕ) (r : Answer) → Step
-  withdrew : (gone : ℕ) (o o′ d d′ : List ℕ) (r : Answer) → Step
-  withdrewList : (masks o o′ d d′ : List ℕ) (r : Answer) → Step
-  returned : (back : ℕ) (o o′ d d′ : List ℕ) (r : Answer) → Step
+-- a call that went: what it asked for, its book buffer and its buffer for a list before and after, and its answer
+pub record Step : Type 0 where
+  pub ask : Ask
+  pub o : List ℕ
+  pub o′ : List ℕ
+  pub d : List ℕ
+  pub d′ : List ℕ
+  pub r : Answer
 
--- the answer of a step, and its book buffer afterwards
-unfoldable pub answerIn : Step → Answer
-answerIn (made mask o o′ r) = r
-answerIn (withdrew gone o o′ d d′ r) = r
-answerIn (withdrewList masks o o′ d d′ r) = r
-answerIn (returned back o o′ d d′ r) = r
-
-unfoldable pub bufferIn : Step → List ℕ
-bufferIn (made mask o o′ r) = o′
-bufferIn (withdrew gone o o′ d d′ r) = o′
-bufferIn (withdrewList masks o o′ d d′ r) = o′
-bufferIn (returned back o o′ d d′ r) = o′
-
--- a step keeps the function's promise, b being the standing book, which withdrawals and returns are handed
+-- a step keeps the function's promise, b being the standing book
 abbrev pub Keeps : List ℕ → List ℕ → Step → Type 0
-Keeps s b (made mask o o′ r) = MakeSays s mask o o′ r
-Keeps s b (withdrew gone o o′ d d′ r) = WithdrawSays s b gone o o′ d d′ r
-Keeps s b (withdrewList masks o o′ d d′ r) = WithdrawListSays s b masks o o′ d d′ r
-Keeps s b (returned back o o′ d d′ r) = ReturnSays s b back o o′ d d′ r
+Keeps s b c = Says s b (c .ask) (c .o) (c .o′) (c .d) (c .d′) (c .r)
 
 -- the standing book after a step: of an accepted call the first bytes of its buffer, as many as it returned
 unfoldable pub nextBook : List ℕ → Step → List ℕ
-nextBook b c = pick (eqb (answerIn c .number) 0) (take (answerIn c .length) (bufferIn c)) b
+nextBook b c = pick (eqb (c .r .number) 0) (take (c .r .length) (c .o′)) b
 
 unfoldable pub lastBook : List ℕ → List Step → List ℕ
 lastBook b [] = b
@@ -58,13 +43,10 @@ Trace s b (c ∷ cs) = Keeps s b c × Trace s (nextBook b c) cs
 -- what a trace returned, and its calls: masks and buffers' lengths alone
 unfoldable pub numbersIn : List Step → List ℕ
 numbersIn [] = []
-numbersIn (c ∷ cs) = answerIn c .number ∷ numbersIn cs
+numbersIn (c ∷ cs) = c .r .number ∷ numbersIn cs
 
 unfoldable pub callOf : Step → Call
-callOf (made mask o o′ r) = makes mask (length o)
-callOf (withdrew gone o o′ d d′ r) = withdraws gone (length o) (length d)
-callOf (withdrewList masks o o′ d d′ r) = withdrawsList masks (length o) (length d)
-callOf (returned back o o′ d d′ r) = returns back (length o) (length d)
+callOf c = record { ask = c .ask; room = length (c .o); drops = length (c .d) }
 
 unfoldable pub callsOf : List Step → List Call
 callsOf [] = []
@@ -92,6 +74,11 @@ serviceAfter s t = inService (plantOf s) (t .mask) (callsOf (t .steps))
 pub record Demand-3-traced : Type 0 where
   -- the standing book is that of a making afresh with the moves in service
   pub as-afresh : (s : List ℕ) (t : Begun s) → bookAfter s t ≡ madeBook (plantOf s) (serviceAfter s t)
+  -- and what a make call with these moves writes: with enough room it is accepted, and its book is the standing one, byte
+  -- for byte
+  pub made-again : {s o o′ : List ℕ} {r : Answer} (t : Begun s) → MakeSays s (serviceAfter s t) o o′ r →
+      bookLong (plantOf s .settles) (plantOf s .states) (plantOf s .goals) ≤ length o →
+      (r .number ≡ 0) × (take (r .length) o′ ≡ bookAfter s t)
   -- so that demand 2 and requests (i) and (v) hold of it
   pub right : (s : List ℕ) (t : Begun s) →
       Right (plantOf s) (serviceAfter s t) (Allowed (plantOf s)) (bookAfter s t)

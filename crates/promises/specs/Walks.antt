@@ -1,10 +1,10 @@
 -- Taking moves straight from the calls: consult, and the call for all good moves, asked at one state after another, each
--- by its own contract, and what that comes to.
+-- by its own contract, and what that comes to, after some steps and for ever.
 use mathlib.Core.Path.{_≡_}
 use mathlib.Core.Logic.{_⊎_}
 use mathlib.Core.Bool.{true, false}
 use mathlib.Core.List.{List}
-use Prim.Native.Nat.{ℕ, suc, _+_, _≤_, _<_}
+use Prim.Native.Nat.{ℕ, zero, suc, _+_, _≤_, _<_}
 use lib.ListN.{take}
 use Rattle.promises.specs.declared.Advice.{Advice}
 use Rattle.promises.specs.declared.Answer.{Answer}
@@ -16,13 +16,33 @@ use Rattle.statements.specs.Strategies.{InGoal, unsettled, Leaves}
 use Rattle.promises.specs.Says.{ConsultSays, MovesSays, WithdrawSays, WithdrawListSays, ReturnSays}
 use Rattle.promises.specs.Traces.{Begun, bookAfter}
 
--- a walk by a book b in the plant with the bytes s (a run of the closed loop): at each moment consult is asked for the
--- state and the goal sought. The move is the one answered, or any of the mask that the call for all good moves answers;
--- the next state is the end of one of its arrows, and the next goal sought is the one answered
+-- the move u taken by a book b in the plant with the bytes s, in state x, seeking goal i: the one that consult answered,
+-- or any of the mask that the call for all good moves answers
+abbrev pub Taken : List ℕ → List ℕ → ℕ → ℕ → Advice → ℕ → Type 0
+Taken s b x i r u = (u ≡ r .action) ⊎ ((m : Mask) × MovesSays s b x i m × (bit u (m .mask) ≡ true))
+
+-- a walk of n steps from state x, seeking goal i, to state y, seeking goal j: consult is asked for the state and the
+-- goal sought, a move is taken, the next state is the end of one of its arrows, and the next goal sought is the one
+-- answered
+abbrev pub WalksTo : List ℕ → List ℕ → ℕ → ℕ → ℕ → ℕ → ℕ → Type 0
+WalksTo s b zero x i y j = (y ≡ x) × (j ≡ i)
+WalksTo s b (suc n) x i y j =
+    (r : Advice) × (u : ℕ) × (z : ℕ) × ConsultSays b x i r × Taken s b x i r u ×
+    (isIn z (ends (plantOf s) x u) ≡ true) × WalksTo s b n z (r .seek) y j
+
+-- what the calls answer where it has come to: consult is not refused and does not say lost, the move that it answers is
+-- available, and the mask of all good moves, which is not refused either, is not 0
+pub record Answered (s b : List ℕ) (x i : ℕ) : Type 0 where
+  pub state : x < plantOf s .states
+  pub goal : i < plantOf s .goals
+  pub advised : {r : Advice} → ConsultSays b x i r →
+      (r .number ≡ 0) × (r .lost ≡ false) × (available (plantOf s) (bookMask b) x (r .action) ≡ true)
+  pub masked : {m : Mask} → MovesSays s b x i m → (m .number ≡ 0) × (m .mask ≡ 0 → ⊥)
+
+-- a walk without end (a run of the closed loop)
 pub record Walk (s b : List ℕ) (states goals moves : ℕ → ℕ) (advice : ℕ → Advice) : Type 0 where
   pub consulted : (n : ℕ) → ConsultSays b (states n) (goals n) (advice n)
-  pub taken : (n : ℕ) → (moves n ≡ advice n .action) ⊎
-      ((m : Mask) × MovesSays s b (states n) (goals n) m × (bit (moves n) (m .mask) ≡ true))
+  pub taken : (n : ℕ) → Taken s b (states n) (goals n) (advice n) (moves n)
   pub leads : (n : ℕ) → isIn (states (suc n)) (ends (plantOf s) (states n) (moves n)) ≡ true
   pub seeks : (n : ℕ) → goals (suc n) ≡ advice n .seek
 
@@ -51,10 +71,14 @@ pub record Walked (s b : List ℕ) (states goals : ℕ → ℕ) (advice : ℕ �
   pub few : plantOf s .settles ≡ true → (n : ℕ) → unsettled (plantOf s) states n < stageAt b (states 0)
 
 -- from any state that the book keeps and any first goal
-abbrev pub Walking : List ℕ → List ℕ → Type 0
-Walking s b =
-    (states goals moves : ℕ → ℕ) (advice : ℕ → Advice) → states 0 < plantOf s .states → isLost b (states 0) ≡ false →
-    goals 0 < plantOf s .goals → Walk s b states goals moves advice → Walked s b states goals advice
+pub record Walking (s b : List ℕ) : Type 0 where
+  -- after any number of steps the walk can go on
+  pub after : (n x i y j : ℕ) → x < plantOf s .states → isLost b x ≡ false → i < plantOf s .goals →
+      WalksTo s b n x i y j → Answered s b y j
+  -- and what it comes to for ever
+  pub for-ever : (states goals moves : ℕ → ℕ) (advice : ℕ → Advice) → states 0 < plantOf s .states →
+      isLost b (states 0) ≡ false → goals 0 < plantOf s .goals → Walk s b states goals moves advice →
+      Walked s b states goals advice
 
 pub record Walks : Type 0 where
   -- by the standing book after an accepted make and any list of calls

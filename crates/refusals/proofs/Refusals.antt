@@ -35,12 +35,12 @@ make-plant s mask room h = first-given (plantFault s) _ h
 module _ (s : List ℕ) (mask room : ℕ) (plant : plantFault s ≡ 0) where
   pub make-6 : maskOk (plantOf s .moves) mask ≡ false → makeFault s mask room ≡ 6
   unfolding toldOf
-  make-6 m = make-told s mask room plant ∙ told-6 (plantOf s) mask (bookRoom (plantOf s) room) m
+  make-6 m = make-told s mask room 0 plant ∙ told-6 (plantOf s) mask (bookRoom (plantOf s) room) m
 
   pub make-room : maskOk (plantOf s .moves) mask ≡ true
       → makeFault s mask room ≡ when (not (bookRoom (plantOf s) room)) 7
   unfolding toldOf
-  make-room m = make-told s mask room plant ∙ told-room (plantOf s) mask (bookRoom (plantOf s) room) m
+  make-room m = make-told s mask room 0 plant ∙ told-room (plantOf s) mask (bookRoom (plantOf s) room) m
 
 -- a book's header is good just when its answer is not 4
 head-tested : (b : List ℕ) → not (bookHeadOk b) ≡ eqb (bookFault b) 4

@@ -100,8 +100,8 @@ module _ {s b : List ℕ} (ready : Ready s b) (m : List ℕ) (good : masksOk m �
         let p = plantOf s in
         let left-ok : maskOk (p .moves) (first - bitAnd first gone) ≡ true =
         rw left-is (less-ok (p .moves) (maskAt m 0) (unionOf (otherMasks m)) first-ok) in
-        says .number
-        ∙ make-told s (first - bitAnd first gone) (length b) (ready .plant)
+        says .writes .number
+        ∙ make-told s (first - bitAnd first gone) (length b) 0 (ready .plant)
         ∙ rw (left-ok, le-leb (bookLong (p .settles) (p .states) (p .goals)) (length b) (omega (arith, ready .long)))
 
     -- and leaves the book of the withdrawals in turn
@@ -110,6 +110,6 @@ module _ {s b : List ℕ} (ready : Ready s b) (m : List ℕ) (good : masksOk m �
     turned-made =
         let p = plantOf s in
         let wrote : b′ ≡ madeBook p Left =
-        (rw (eq-eqb (r .number) 0 accepted, left-is) at (says .book))
+        (rw (eq-eqb (r .number) 0 accepted, left-is) at (says .writes .book))
         ∙ over-all (madeBook p Left) b (ready .long ∙ sym (made-length p Left)) in
         rw (both, accepted, wrote, in-turn-afresh p (plant-ok s (ready .plant)) (maskAt m 0) first-ok (otherMasks m))

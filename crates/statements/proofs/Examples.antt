@@ -19,8 +19,8 @@ use Rattle.statements.specs.Books.{madeBook, keptBefore, withdrawnBook, 
 use Rattle.statements.specs.Books.{withdrawnList, returnedBook, droppedStates, gainedStates}
 use Rattle.statements.specs.Calls.{maskFault, wholeMasks, masksFault, bookRoom, dropRoom, roomFault, makeFault}
 use Rattle.statements.specs.Calls.{alike, lentFault, withdrawFault, withdrawListFault, previewFault, numberFault}
-use Rattle.statements.specs.Calls.{consultFault, movesFault, rowPart, answerOf, writtenBy}
-use Rattle.statements.specs.Calls.{standingAfter, standing, answers, toldOf, told, putBy, inService}
+use Rattle.statements.specs.Calls.{consultFault, movesFault, rowPart, answerOf}
+use Rattle.statements.specs.Calls.{standingAfter, standing, answers, toldOf, numberTold, told, putAfter, inService}
 use Rattle.statements.specs.Marked.{plantP, plantStill, plantLoop, plantMay, plantEnd, bookP, lostRow}
 use Rattle.statements.specs.Marked.{bookM1, bookM2, bookM9, bookBoth, bookBoth9, bookFour, bookThree, allLost}
 use Rattle.statements.specs.Marked.{Marked, fifteen, Marked-arrivals, Marked-moves, Marked-previews}
@@ -31,21 +31,21 @@ use Rattle.statements.specs.MarkedStages.{bookTwoLost, bookTwoHigh, book
 use Rattle.statements.specs.MarkedStages.{Marked-stages, Answered-stages}
 
 pub marked : Marked
-unfolding bit numbers every first joined iterate isIn allIn filter word words arrowsFrom plantOf headOk labelsOk rank arrowsOk plantFault allowed inGoal settled endsIn ends available goesInto moveInto can grown target forced forcedAll heldRound heldWithin nextStage stagesTo keptWithin stagesBefore stageOf stageAfter stageFor level waitIn waitOf nearer landing listedMove two bookLong entryOf stagePart rowOf headOf bookBytes bookStates bookMoves bookGoals bookCount bookMask bookTotal staged rowPlace entryPlace rowLong waitAt moveAt stageAt stageLost isLost stageHeld isHeld bookKept maskOk bookHeadOk rowsOk bookFault goalAfter served passes arrive lessMask bookWithin madeBook keptBefore withdrawnBook droppedStates maskFault bookRoom dropRoom roomFault makeFault alike lentFault withdrawFault numberFault consultFault rowPart answerOf writtenBy standingAfter standing answers toldOf told putBy inService bytesOf plantP plantStill plantLoop plantMay plantEnd bookP lostRow bookM1 bookM2 bookM9 allLost
+unfolding bit numbers every first joined iterate isIn allIn filter word words arrowsFrom plantOf headOk labelsOk rank arrowsOk plantFault allowed inGoal settled endsIn ends available goesInto moveInto can grown target forced forcedAll heldRound heldWithin nextStage stagesTo keptWithin stagesBefore stageOf stageAfter stageFor level waitIn waitOf nearer landing listedMove two bookLong entryOf stagePart rowOf headOf bookBytes bookStates bookMoves bookGoals bookCount bookMask bookTotal staged rowPlace entryPlace rowLong waitAt moveAt stageAt stageLost isLost stageHeld isHeld bookKept maskOk bookHeadOk rowsOk bookFault goalAfter served passes arrive lessMask bookWithin madeBook keptBefore withdrawnBook droppedStates maskFault bookRoom dropRoom roomFault makeFault alike lentFault withdrawFault numberFault consultFault rowPart answerOf standingAfter standing answers toldOf numberTold told putAfter inService bytesOf plantP plantStill plantLoop plantMay plantEnd bookP lostRow bookM1 bookM2 bookM9 allLost
 marked =
     record {
-      m1 = record { accepted = refl; short = refl; book = refl };
-      m2 = record { accepted = refl; short-book = refl; short-drops = refl; book = refl; drops = refl };
-      m3 = record { accepted = refl; short-book = refl; short-drops = refl; book = refl; drops = refl };
-      m4 = record { accepted = refl; short-book = refl; short-drops = refl; book = refl; drops = refl };
-      m5 = record { accepted = refl; short = refl; book = refl };
-      m6 = record { accepted = refl; short = refl; book = refl };
-      m7 = record { accepted = refl; short = refl; book = refl };
-      m8 = record { accepted = refl; short = refl; book = refl };
-      m9 = record { accepted = refl; short-book = refl; short-drops = refl; book = refl; drops = refl };
+      m1 = record { accepted = refl; short = refl; book = refl; lists-none = refl };
+      m2 = record { accepted = refl; short-book = refl; short-list = refl; book = refl; list = refl };
+      m3 = record { accepted = refl; short-book = refl; short-list = refl; book = refl; list = refl };
+      m4 = record { accepted = refl; short-book = refl; short-list = refl; book = refl; list = refl };
+      m5 = record { accepted = refl; short = refl; book = refl; lists-none = refl };
+      m6 = record { accepted = refl; short = refl; book = refl; lists-none = refl };
+      m7 = record { accepted = refl; short = refl; book = refl; lists-none = refl };
+      m8 = record { accepted = refl; short = refl; book = refl; lists-none = refl };
+      m9 = record { accepted = refl; short-book = refl; short-list = refl; book = refl; list = refl };
       m10-first = record { accepted = refl; move-is = refl; wait-is = refl; seek-is = refl };
       m10-second = record { accepted = refl; move-is = refl; wait-is = refl; seek-is = refl };
-      m11 = record { accepted = refl; short = refl; book = refl };
+      m11 = record { accepted = refl; short = refl; book = refl; lists-none = refl };
     }
 
 pub marked-arrivals : Marked-arrivals
@@ -97,13 +97,13 @@ pub marked-lists : Marked-lists
 unfolding bit numbers every first joined iterate isIn allIn filter word words arrowsFrom plantOf headOk labelsOk rank arrowsOk plantFault allowed inGoal settled endsIn ends available goesInto moveInto can grown target forced forcedAll heldRound heldWithin nextStage stagesTo keptWithin stagesBefore stageOf stageAfter stageFor level waitIn waitOf nearer landing listedMove two bookLong entryOf stagePart rowOf headOf bookBytes bookStates bookMoves bookGoals bookCount bookMask bookTotal staged rowPlace entryPlace rowLong waitAt moveAt stageAt stageLost isLost stageHeld isHeld bookKept maskAt maskOk eachOk bookHeadOk rowsOk bookFault lessMask bookWithin keptBefore withdrawnBook masksIn masksOf withdrawnInTurn withdrawnList droppedStates wholeMasks masksFault bookRoom dropRoom roomFault alike lentFault withdrawListFault bytesOf plantP plantMay bookP lostRow bookM1 bookM2 bookM9 allLost fifteen
 marked-lists =
     record {
-      two-masks = record { accepted = refl; short-book = refl; short-drops = refl; book = refl; drops = refl };
-      all = record { accepted = refl; short-book = refl; short-drops = refl; book = refl; drops = refl };
-      twice = record { accepted = refl; short-book = refl; short-drops = refl; book = refl; drops = refl };
-      none = record { accepted = refl; short-book = refl; short-drops = refl; book = refl; drops = refl };
-      zero-mask = record { accepted = refl; short-book = refl; short-drops = refl; book = refl; drops = refl };
-      not-made = record { accepted = refl; short-book = refl; short-drops = refl; book = refl; drops = refl };
-      most = record { accepted = refl; short-book = refl; short-drops = refl; book = refl; drops = refl };
+      two-masks = record { accepted = refl; short-book = refl; short-list = refl; book = refl; list = refl };
+      all = record { accepted = refl; short-book = refl; short-list = refl; book = refl; list = refl };
+      twice = record { accepted = refl; short-book = refl; short-list = refl; book = refl; list = refl };
+      none = record { accepted = refl; short-book = refl; short-list = refl; book = refl; list = refl };
+      zero-mask = record { accepted = refl; short-book = refl; short-list = refl; book = refl; list = refl };
+      not-made = record { accepted = refl; short-book = refl; short-list = refl; book = refl; list = refl };
+      most = record { accepted = refl; short-book = refl; short-list = refl; book = refl; list = refl };
       too-many = refl;
       cut = refl;
       first-bad = refl;
@@ -112,17 +112,17 @@ marked-lists =
     }
 
 pub marked-returns : Marked-returns
-unfolding bit numbers every first joined iterate isIn allIn filter word words arrowsFrom plantOf headOk labelsOk rank arrowsOk plantFault allowed inGoal settled endsIn ends available goesInto moveInto can grown target forced forcedAll heldRound heldWithin nextStage stagesTo keptWithin stagesBefore stageOf stageAfter stageFor level waitIn waitOf nearer landing listedMove two bookLong entryOf stagePart rowOf headOf bookBytes bookStates bookMoves bookGoals bookCount bookMask bookTotal staged rowPlace entryPlace rowLong waitAt moveAt stageAt stageLost isLost stageHeld isHeld bookKept maskOk bookHeadOk rowsOk bookFault lessMask bookWithin madeBook keptBefore withdrawnBook returnedBook gainedStates maskFault bookRoom dropRoom roomFault alike lentFault withdrawFault answerOf writtenBy standingAfter standing answers toldOf putBy inService bytesOf plantP plantMay bookP lostRow bookM1 bookM2 bookM9 bookFour allLost outAndBack
+unfolding bit numbers every first joined iterate isIn allIn filter word words arrowsFrom plantOf headOk labelsOk rank arrowsOk plantFault allowed inGoal settled endsIn ends available goesInto moveInto can grown target forced forcedAll heldRound heldWithin nextStage stagesTo keptWithin stagesBefore stageOf stageAfter stageFor level waitIn waitOf nearer landing listedMove two bookLong entryOf stagePart rowOf headOf bookBytes bookStates bookMoves bookGoals bookCount bookMask bookTotal staged rowPlace entryPlace rowLong waitAt moveAt stageAt stageLost isLost stageHeld isHeld bookKept maskOk bookHeadOk rowsOk bookFault lessMask bookWithin madeBook keptBefore withdrawnBook returnedBook gainedStates maskFault bookRoom dropRoom roomFault alike lentFault withdrawFault answerOf standingAfter standing answers toldOf numberTold putAfter inService bytesOf plantP plantMay bookP lostRow bookM1 bookM2 bookM9 bookFour allLost outAndBack
 marked-returns =
     record {
-      none = record { accepted = refl; short-book = refl; short-list = refl; book = refl; gains = refl };
-      all = record { accepted = refl; short-book = refl; short-list = refl; book = refl; gains = refl };
-      two-moves = record { accepted = refl; short-book = refl; short-list = refl; book = refl; gains = refl };
-      not-enough = record { accepted = refl; short-book = refl; short-list = refl; book = refl; gains = refl };
-      in-service = record { accepted = refl; short-book = refl; short-list = refl; book = refl; gains = refl };
-      zero-mask = record { accepted = refl; short-book = refl; short-list = refl; book = refl; gains = refl };
-      not-made = record { accepted = refl; short-book = refl; short-list = refl; book = refl; gains = refl };
-      lost-now = record { accepted = refl; short-book = refl; short-list = refl; book = refl; gains = refl };
+      none = record { accepted = refl; short-book = refl; short-list = refl; book = refl; list = refl };
+      all = record { accepted = refl; short-book = refl; short-list = refl; book = refl; list = refl };
+      two-moves = record { accepted = refl; short-book = refl; short-list = refl; book = refl; list = refl };
+      not-enough = record { accepted = refl; short-book = refl; short-list = refl; book = refl; list = refl };
+      in-service = record { accepted = refl; short-book = refl; short-list = refl; book = refl; list = refl };
+      zero-mask = record { accepted = refl; short-book = refl; short-list = refl; book = refl; list = refl };
+      not-made = record { accepted = refl; short-book = refl; short-list = refl; book = refl; list = refl };
+      lost-now = record { accepted = refl; short-book = refl; short-list = refl; book = refl; list = refl };
       no-move = refl;
       unlike = refl;
       numbers-are = refl;

@@ -10,7 +10,7 @@ use Rattle.statements.specs.Plants.{firstOf, when, Plant, plantOf, plant
 use Rattle.statements.specs.Books.{bookLong, bookStates, bookMoves, bookGoals, bookTotal, rowPlace, rowLong}
 use Rattle.statements.specs.Books.{maskOk, eachOk, bookHeadOk}
 use Rattle.statements.specs.Books.{bookFault, lessMask, madeBook, withdrawnBook, masksOf, unionOf, withdrawnList}
-use Rattle.statements.specs.Books.{returnedBook}
+use Rattle.statements.specs.Books.{returnedBook, droppedStates, gainedStates}
 
 -- answer 6: the mask given has a bit at U or above
 unfoldable pub maskFault : Plant → ℕ → ℕ
@@ -90,64 +90,98 @@ unfoldable pub rowPart : List ℕ → ℕ → List ℕ
 rowPart b x =
     pick (eqb (consultFault b x 0) 0) (take (rowLong b) (drop (rowPlace b x) b)) []
 
--- a make, or a withdrawal or a list of them from the standing book, or a return to it: its mask, or its masks' bytes,
--- and its buffers' lengths
-pub data Call : Type 0 where
-  makes : (mask room : ℕ) → Call
-  withdraws : (gone room drops : ℕ) → Call
-  withdrawsList : (masks : List ℕ) (room drops : ℕ) → Call
-  returns : (back room gained : ℕ) → Call
+-- what a call that writes a book asks for: a mask to make with, moves to withdraw, a list of masks' bytes, moves to
+-- return
+pub data Ask : Type 0 where
+  makes : (mask : ℕ) → Ask
+  withdraws : (gone : ℕ) → Ask
+  withdrawsList : (masks : List ℕ) → Ask
+  returns : (back : ℕ) → Ask
 
--- the number a call on a plant's bytes returns when b is the standing book
+-- a call on the standing book: what it asks for, and its buffers' lengths; a make has no buffer for a list
+pub record Call : Type 0 where
+  pub ask : Ask
+  pub room : ℕ
+  pub drops : ℕ
+
+-- what a call does on a plant's bytes s when b is the standing book: the number it returns for its buffers' lengths,
+-- and, accepted, the book that it writes and the states that it lists
+pub record Effect : Type 0 where
+  pub number : ℕ → ℕ → ℕ
+  pub book : List ℕ
+  pub list : List ℕ
+
+abbrev pub effectOf : List ℕ → List ℕ → Ask → Effect
+effectOf s b (makes mask) =
+    record { number = λ room drops. makeFault s mask room; book = madeBook (plantOf s) mask; list = [] }
+effectOf s b (withdraws gone) =
+    let after = withdrawnBook (plantOf s) b gone in
+    record { number = withdrawFault s b gone; book = after; list = droppedStates b after }
+effectOf s b (withdrawsList masks) =
+    let after = withdrawnList (plantOf s) b masks in
+    record { number = withdrawListFault s b masks; book = after; list = droppedStates b after }
+effectOf s b (returns back) =
+    let after = returnedBook (plantOf s) b back in
+    record { number = returnFault s b back; book = after; list = gainedStates b after }
+
+-- what is told from the call alone: the number, 6 for a mask, 9 or 6 for a list of them, 7 for a buffer, otherwise 0;
+-- and, accepted, the moves in service after it, from those before
+pub record Told : Type 0 where
+  pub number : ℕ → ℕ → ℕ
+  pub put : ℕ → ℕ
+
+unfoldable pub toldOf : Plant → Ask → Told
+toldOf p (makes new) =
+    record { number = λ room drops. firstOf (maskFault p new) (when (not (bookRoom p room)) 7); put = λ mask. new }
+toldOf p (withdraws gone) =
+    record {
+      number = λ room drops. firstOf (maskFault p gone) (roomFault p room drops);
+      put = λ mask. lessMask mask gone;
+    }
+toldOf p (withdrawsList masks) =
+    record {
+      number = λ room drops. firstOf (masksFault p masks) (roomFault p room drops);
+      put = λ mask. lessMask mask (unionOf (masksOf masks));
+    }
+toldOf p (returns back) =
+    record {
+      number = λ room drops. firstOf (maskFault p back) (roomFault p room drops);
+      put = λ mask. bitOr mask back;
+    }
+
+-- the number a call returns, and the standing book after it: a refused call leaves it as it was
 unfoldable pub answerOf : List ℕ → List ℕ → Call → ℕ
-answerOf s b (makes mask room) = makeFault s mask room
-answerOf s b (withdraws gone room drops) = withdrawFault s b gone room drops
-answerOf s b (withdrawsList masks room drops) = withdrawListFault s b masks room drops
-answerOf s b (returns back room gained) = returnFault s b back room gained
+answerOf s b c = effectOf s b (c .ask) .number (c .room) (c .drops)
 
--- the book that an accepted call writes
-unfoldable pub writtenBy : List ℕ → List ℕ → Call → List ℕ
-writtenBy s b (makes mask room) = madeBook (plantOf s) mask
-writtenBy s b (withdraws gone room drops) = withdrawnBook (plantOf s) b gone
-writtenBy s b (withdrawsList masks room drops) = withdrawnList (plantOf s) b masks
-writtenBy s b (returns back room gained) = returnedBook (plantOf s) b back
-
--- the standing book after a call, and after a list of calls: a refused call leaves it as it was
 unfoldable pub standingAfter : List ℕ → List ℕ → Call → List ℕ
-standingAfter s b c = pick (eqb (answerOf s b c) 0) (writtenBy s b c) b
+standingAfter s b c = pick (eqb (answerOf s b c) 0) (effectOf s b (c .ask) .book) b
 
+-- the standing book after a list of calls, and the numbers that they return, one after the other
 unfoldable pub standing : List ℕ → List ℕ → List Call → List ℕ
 standing s b [] = b
 standing s b (c ∷ cs) = standing s (standingAfter s b c) cs
 
--- the numbers that the calls of a list return, one after the other
 unfoldable pub answers : List ℕ → List ℕ → List Call → List ℕ
 answers s b [] = []
 answers s b (c ∷ cs) = answerOf s b c ∷ answers s (standingAfter s b c) cs
 
--- told from the calls alone: 6 for a mask, 9 or 6 for a list of them, 7 for a buffer, otherwise accepted
-unfoldable pub toldOf : Plant → Call → ℕ
-toldOf p (makes mask room) = firstOf (maskFault p mask) (when (not (bookRoom p room)) 7)
-toldOf p (withdraws gone room drops) = firstOf (maskFault p gone) (roomFault p room drops)
-toldOf p (withdrawsList masks room drops) = firstOf (masksFault p masks) (roomFault p room drops)
-toldOf p (returns back room gained) = firstOf (maskFault p back) (roomFault p room gained)
+-- the numbers, and the moves in service, told from the calls alone
+unfoldable pub numberTold : Plant → Call → ℕ
+numberTold p c = toldOf p (c .ask) .number (c .room) (c .drops)
 
 unfoldable pub told : Plant → List Call → List ℕ
 told p [] = []
-told p (c ∷ cs) = toldOf p c ∷ told p cs
+told p (c ∷ cs) = numberTold p c ∷ told p cs
 
--- the moves in service after a call, and after a list of calls, told from the calls alone
-unfoldable pub putBy : ℕ → Call → ℕ
-putBy mask (makes new room) = new
-putBy mask (withdraws gone room drops) = lessMask mask gone
-putBy mask (withdrawsList masks room drops) = lessMask mask (unionOf (masksOf masks))
-putBy mask (returns back room gained) = bitOr mask back
+unfoldable pub putAfter : Plant → ℕ → Call → ℕ
+putAfter p mask c = pick (eqb (numberTold p c) 0) (toldOf p (c .ask) .put mask) mask
 
 unfoldable pub inService : Plant → ℕ → List Call → ℕ
 inService p mask [] = mask
-inService p mask (c ∷ cs) = inService p (pick (eqb (toldOf p c) 0) (putBy mask c) mask) cs
+inService p mask (c ∷ cs) = inService p (putAfter p mask c) cs
 
 -- the single withdrawals of some masks, one after the other, with buffers of these lengths
 unfoldable pub singles : List ℕ → ℕ → ℕ → List Call
 singles [] room drops = []
-singles (gone ∷ more) room drops = withdraws gone room drops ∷ singles more room drops
+singles (gone ∷ more) room drops =
+    record { ask = withdraws gone; room = room; drops = drops } ∷ singles more room drops

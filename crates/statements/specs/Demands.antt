@@ -4,7 +4,7 @@
 use mathlib.Core.Path.{_≡_}
 use mathlib.Core.Logic.{_↔_, _⊎_}
 use mathlib.Core.Bool.{true, false}
-use mathlib.Core.List.{List}
+use mathlib.Core.List.{List, [], _∷_, _++_}
 use Prim.Native.Nat.{ℕ, suc, _+_, _≤_, _<_}
 use lib.ListN.{length, getD}
 use lib.Bits.{bitOr}
@@ -13,10 +13,11 @@ use Rattle.statements.specs.Plants.{word, Plant, plantOf, allowed, ends,
 use Rattle.statements.specs.Books.{bookLong, bookStates, bookMoves, bookGoals, bookCount, bookMask, bookTotal}
 use Rattle.statements.specs.Books.{waitAt, moveAt, stageAt, isLost, bookKept, bookFault, goalAfter, passes}
 use Rattle.statements.specs.Books.{arrive, goodMoves}
-use Rattle.statements.specs.Books.{lessMask, keptBefore, madeBook, withdrawnBook, masksOf, unionOf}
-use Rattle.statements.specs.Books.{withdrawnList, returnedBook, droppedStates, gainedStates}
-use Rattle.statements.specs.Calls.{makeFault, withdrawFault, withdrawListFault, returnFault, Call, standing}
-use Rattle.statements.specs.Calls.{answers, told, inService, singles}
+use Rattle.statements.specs.Books.{lessMask, madeBook, withdrawnBook, masksOf, unionOf, withdrawnList}
+use Rattle.statements.specs.Books.{returnedBook, droppedStates, gainedStates}
+use Rattle.statements.specs.Calls.{makeFault, withdrawFault, withdrawListFault, returnFault, Call, makes}
+use Rattle.statements.specs.Calls.{withdraws, withdrawsList, returns, standing, answers, numberTold, told}
+use Rattle.statements.specs.Calls.{inService, singles}
 use Rattle.statements.specs.Strategies.{Run, Wins-by, Wins, Forces, InGoal, Stays, unsettled, following}
 use Rattle.statements.specs.Strategies.{Picks, Serves}
 
@@ -109,13 +110,13 @@ pub record IsBook (p : Plant) (mask : ℕ) (within : ℕ → Type 0) (b : List �
   pub one-stage : p .settles ≡ false → (x : ℕ) → stageAt b x ≡ 1
   pub has-stages : p .settles ≡ true → HasStages p mask within b
 
--- the sets that strategies may not leave: in a making the allowed states, in a withdrawal those of them that the book
--- handed in keeps
+-- the sets that strategies may not leave: in a making the allowed states, in a withdrawal the plant's states that are
+-- allowed and not lost in the book handed in
 abbrev pub Allowed : Plant → ℕ → Type 0
 Allowed p x = allowed p x ≡ true
 
 abbrev pub KeptBefore : Plant → List ℕ → ℕ → Type 0
-KeptBefore p b x = keptBefore p b x ≡ true
+KeptBefore p b x = (x < p .states) × (allowed p x ≡ true) × (isLost b x ≡ false)
 
 -- the numbers of a list strictly rise, so that each stands there once
 abbrev pub Rising : List ℕ → Type 0
@@ -186,9 +187,10 @@ pub record Demand-2 : Type 0 where
   -- and for that of a withdrawal from any book, also one that nobody made
   pub withdrawn : (s b : List ℕ) (gone room drops : ℕ) → withdrawFault s b gone room drops ≡ 0 →
       Right (plantOf s) (lessMask (bookMask b) gone) (KeptBefore (plantOf s) b) (withdrawnBook (plantOf s) b gone)
-  -- where the states not to be left are the allowed ones that b keeps
-  pub before : (p : Plant) (b : List ℕ) (x : ℕ) →
-      KeptBefore p b x ↔ ((allowed p x ≡ true) × (isLost b x ≡ false))
+  -- a move is in its mask exactly when it is in the mask of the book handed in and not in the one withdrawn
+  pub less : (s b : List ℕ) (gone room drops : ℕ) → withdrawFault s b gone room drops ≡ 0 → (u : ℕ) →
+      (bit u (bookMask (withdrawnBook (plantOf s) b gone)) ≡ true) ↔
+      ((bit u (bookMask b) ≡ true) × (bit u gone ≡ false))
   -- the drop list: the states kept before and lost now
   pub dropped : (s b : List ℕ) (gone room drops : ℕ) → withdrawFault s b gone room drops ≡ 0 → (x : ℕ) →
       let after = withdrawnBook (plantOf s) b gone in
@@ -266,8 +268,45 @@ pub record Returning : Type 0 where
       let again = returnedBook (plantOf s) after gone in
       (again ≡ before) × (gainedStates after again ≡ droppedStates before after)
 
+-- document 01, "Books after many calls", and request (vii): the moves in service, told from the calls alone, move by
+-- move, after one call more
+pub record In-service : Type 0 where
+  -- two masks are equal exactly when they have the same moves
+  pub same : (mask other : ℕ) → (mask ≡ other) ↔ ((u : ℕ) → bit u mask ≡ bit u other)
+  -- before any call they are those of the first make
+  pub first : (p : Plant) (mask : ℕ) → inService p mask [] ≡ mask
+  -- a refused call leaves them
+  pub refused : (p : Plant) (mask : ℕ) (calls : List Call) (c : Call) → (numberTold p c ≡ 0 → ⊥) →
+      inService p mask (calls ++ (c ∷ [])) ≡ inService p mask calls
+  -- an accepted make sets them to its mask
+  pub made : (p : Plant) (mask new room drops : ℕ) (calls : List Call) →
+      let c : Call = record { ask = makes new; room = room; drops = drops } in
+      numberTold p c ≡ 0 → (u : ℕ) →
+      (bit u (inService p mask (calls ++ (c ∷ []))) ≡ true) ↔ (bit u new ≡ true)
+  -- an accepted withdrawal takes out those that its mask names
+  pub withdrawn : (p : Plant) (mask gone room drops : ℕ) (calls : List Call) →
+      let c : Call = record { ask = withdraws gone; room = room; drops = drops } in
+      numberTold p c ≡ 0 → (u : ℕ) →
+      (bit u (inService p mask (calls ++ (c ∷ []))) ≡ true) ↔
+      ((bit u (inService p mask calls) ≡ true) × (bit u gone ≡ false))
+  -- an accepted list of withdrawals those that a mask of it names
+  pub withdrawn-list : (p : Plant) (mask room drops : ℕ) (masks : List ℕ) (calls : List Call) →
+      let c : Call = record { ask = withdrawsList masks; room = room; drops = drops } in
+      numberTold p c ≡ 0 → (u : ℕ) →
+      (bit u (inService p mask (calls ++ (c ∷ []))) ≡ true) ↔
+      ((bit u (inService p mask calls) ≡ true) ×
+      ((gone : ℕ) → isIn gone (masksOf masks) ≡ true → bit u gone ≡ false))
+  -- an accepted return puts its moves back
+  pub returned : (p : Plant) (mask back room drops : ℕ) (calls : List Call) →
+      let c : Call = record { ask = returns back; room = room; drops = drops } in
+      numberTold p c ≡ 0 → (u : ℕ) →
+      (bit u (inService p mask (calls ++ (c ∷ []))) ≡ true) ↔
+      ((bit u (inService p mask calls) ≡ true) ⊎ (bit u back ≡ true))
+
 -- demand 3: after any list of calls that follows an accepted make
 pub record Demand-3 : Type 0 where
+  -- what a call puts in service and takes out
+  pub service : In-service
   -- the standing book is that of a making afresh with the moves in service
   pub as-afresh : (s : List ℕ) (mask room : ℕ) (calls : List Call) → makeFault s mask room ≡ 0 →
       standing s (madeBook (plantOf s) mask) calls ≡ madeBook (plantOf s) (inService (plantOf s) mask calls)

@@ -8,3 +8,4 @@ pub mod Strategies
 pub mod Demands
 pub mod Marked
 pub mod MarkedStages
+pub mod MarkedEdges

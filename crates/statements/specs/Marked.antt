@@ -4,10 +4,10 @@ use mathlib.Core.Path.{_≡_}
 use mathlib.Core.List.{List, [], _∷_, _++_}
 use Prim.Native.Nat.{ℕ, _-_}
 use Rattle.statements.specs.Plants.{plantOf}
-use Rattle.statements.specs.Books.{bytesOf, bookCount, waitAt, moveAt, arrive, goodMoves, madeBook}
-use Rattle.statements.specs.Books.{withdrawnBook, withdrawnList, returnedBook, droppedStates, gainedStates}
-use Rattle.statements.specs.Calls.{makeFault, withdrawFault, withdrawListFault, returnFault, previewFault}
-use Rattle.statements.specs.Calls.{consultFault, movesFault, Call, withdraws, returns, standing, answers}
+use Rattle.statements.specs.Books.{bytesOf, bookCount, waitAt, moveAt, arrive, goodMoves, withdrawnBook}
+use Rattle.statements.specs.Books.{droppedStates}
+use Rattle.statements.specs.Calls.{withdrawListFault, returnFault, previewFault, consultFault, movesFault, Ask}
+use Rattle.statements.specs.Calls.{Call, makes, withdraws, withdrawsList, returns, effectOf, standing, answers}
 use Rattle.statements.specs.Calls.{inService}
 
 -- strip plant P: header, labels 3 1 5 0, then the eight arrows
@@ -68,17 +68,22 @@ allLost mask = bookP 0 mask (lostRow ++ (lostRow ++ (lostRow ++ lostRow)))
 
 -- making with a mask is accepted with a buffer of just the book's length, and gives this book
 pub record Makes (s : List ℕ) (mask room : ℕ) (b : List ℕ) : Type 0 where
-  pub accepted : makeFault s mask room ≡ 0
-  pub short : makeFault s mask (room - 1) ≡ 7
-  pub book : madeBook (plantOf s) mask ≡ b
+  pub accepted : effectOf s [] (makes mask) .number room 0 ≡ 0
+  pub short : effectOf s [] (makes mask) .number (room - 1) 0 ≡ 7
+  pub book : effectOf s [] (makes mask) .book ≡ b
+  pub lists-none : effectOf s [] (makes mask) .list ≡ []
 
--- withdrawing a mask from a book for P is accepted with buffers of just their lengths, gives this book and drops these
-pub record Withdraws (b : List ℕ) (gone : ℕ) (after dropped : List ℕ) : Type 0 where
-  pub accepted : withdrawFault plantP b gone 48 8 ≡ 0
-  pub short-book : withdrawFault plantP b gone 47 8 ≡ 7
-  pub short-drops : withdrawFault plantP b gone 48 7 ≡ 7
-  pub book : withdrawnBook (plantOf plantP) b gone ≡ after
-  pub drops : droppedStates b after ≡ dropped
+-- a call on a book for P is accepted with buffers of just their lengths, gives this book and lists these states
+pub record Does (b : List ℕ) (ask : Ask) (after listed : List ℕ) : Type 0 where
+  pub accepted : effectOf plantP b ask .number 48 8 ≡ 0
+  pub short-book : effectOf plantP b ask .number 47 8 ≡ 7
+  pub short-list : effectOf plantP b ask .number 48 7 ≡ 7
+  pub book : effectOf plantP b ask .book ≡ after
+  pub list : effectOf plantP b ask .list ≡ listed
+
+-- withdrawing a mask
+abbrev pub Withdraws : List ℕ → ℕ → List ℕ → List ℕ → Type 0
+Withdraws b gone after dropped = Does b (withdraws gone) after dropped
 
 -- consulting a book for a state and a goal gives the move and the wait of the goal arrived at, and that goal
 pub record Consults (b : List ℕ) (x i move wait seek : ℕ) : Type 0 where
@@ -163,14 +168,9 @@ pub record Marked-previews : Type 0 where
   pub no-move : previewFault plantP bookM1 8 7 ≡ 6
   pub unlike : previewFault plantMay bookM1 8 7 ≡ 4
 
--- withdrawing a list of masks from a book for P is accepted with buffers of just their lengths, gives this book and
--- drops these
-pub record Withdraws-list (b masks after dropped : List ℕ) : Type 0 where
-  pub accepted : withdrawListFault plantP b (bytesOf masks) 48 8 ≡ 0
-  pub short-book : withdrawListFault plantP b (bytesOf masks) 47 8 ≡ 7
-  pub short-drops : withdrawListFault plantP b (bytesOf masks) 48 7 ≡ 7
-  pub book : withdrawnList (plantOf plantP) b (bytesOf masks) ≡ after
-  pub drops : droppedStates b after ≡ dropped
+-- withdrawing a list of masks
+abbrev pub Withdraws-list : List ℕ → List ℕ → List ℕ → List ℕ → Type 0
+Withdraws-list b masks after dropped = Does b (withdrawsList (bytesOf masks)) after dropped
 
 -- a list of 15 masks of 0
 unfoldable pub fifteen : List ℕ
@@ -200,17 +200,16 @@ pub record Marked-lists : Type 0 where
   pub last-bad : withdrawListFault plantP bookM1 (bytesOf (1 ∷ 0 ∷ 0 ∷ 1 ∷ [])) 47 8 ≡ 6
   pub unlike : withdrawListFault plantMay bookM1 (255 ∷ []) 47 8 ≡ 4
 
--- returning a mask to a book for P is accepted with buffers of just their lengths, gives this book and lists these
-pub record Returns (b : List ℕ) (back : ℕ) (after gained : List ℕ) : Type 0 where
-  pub accepted : returnFault plantP b back 48 8 ≡ 0
-  pub short-book : returnFault plantP b back 47 8 ≡ 7
-  pub short-list : returnFault plantP b back 48 7 ≡ 7
-  pub book : returnedBook (plantOf plantP) b back ≡ after
-  pub gains : gainedStates b after ≡ gained
+-- returning a mask
+abbrev pub Returns : List ℕ → ℕ → List ℕ → List ℕ → Type 0
+Returns b back after gained = Does b (returns back) after gained
 
 -- calls with buffers of just their lengths: move 0 withdrawn, a move past the last returned, moves 0 and 2 returned
 unfoldable pub outAndBack : List Call
-outAndBack = withdraws 1 48 8 ∷ returns 8 48 8 ∷ returns 5 48 8 ∷ []
+outAndBack = on (withdraws 1) ∷ on (returns 8) ∷ on (returns 5) ∷ []
+  where
+    on : Ask → Call
+    on ask = record { ask = ask; room = 48; drops = 8 }
 
 pub record Marked-returns : Type 0 where
   -- move 2 back in M2's book, which had lost no state, and move 0 back in M3's, which had lost them all: M1's book

@@ -6,7 +6,7 @@ use lib.ListN.{length}
 use Rattle.statements.specs.Calls.{makeFault}
 use Rattle.decoding.proofs.Faults.{make-ok}
 use Rattle.books.proofs.Made.{make-refused, make-done}
-use Rattle.promises.proofs.Demands.{demands}
+use Rattle.promises.proofs.Demands.{of-make}
 use borrow.Author.Needs.{needs}
 use Rattle.books.proofs.make_book.Statement.{statement}
 use Rattle.books.proofs.make_book.Tie as tie
@@ -23,7 +23,7 @@ returns c =
     let a = e .before .before .before .before .args in (
       make-refused (now (a .plant)) (a .mask) (now (a .out)) _ (c .refused .ensures) (e .before .make .ensures)
           (e .if1 .taken),
-      demands,
+      of-make,
     )
 
 -- past the test the call is accepted
@@ -47,7 +47,7 @@ returns-2 c =
     let e = k .before .before in
     let a = e .before .before .before .before .args in (
       make-done (now (a .plant)) (a .mask) (now (a .out)) _ (fine e) (k .book .ensures .0) (k .book .ensures .1),
-      demands,
+      of-make,
     )
 
 pub make-book-spec : {M : Type 1} → statement M

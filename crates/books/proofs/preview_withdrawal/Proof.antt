@@ -4,7 +4,7 @@ use mathlib.Core.Path.{refl}
 use Rattle.statements.specs.Plants.{word}
 use Rattle.statements.specs.Books.{bookCount}
 use Rattle.books.proofs.Previewing.{preview-done}
-use Rattle.promises.proofs.Demands.{demands}
+use Rattle.promises.proofs.Demands.{of-preview}
 use borrow.Author.Needs.{needs}
 use Rattle.books.proofs.preview_withdrawal.Statement.{statement}
 use Rattle.books.proofs.preview_withdrawal.Tie as tie
@@ -31,7 +31,7 @@ returns : tie.Need-returns
 unfolding bookCount word
 returns c =
     let w = c .before .before .before .before .before .withdraw-moves in
-    (preview-done (c .number .result) (w .ensures .0) refl refl (c .number .ensures), demands)
+    (preview-done (c .number .result) (w .ensures .0) refl refl (c .number .ensures), of-preview)
 
 pub preview-withdrawal-spec : {M : Type 1} → statement M
 preview-withdrawal-spec =

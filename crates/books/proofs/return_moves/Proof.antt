@@ -10,7 +10,7 @@ use Rattle.statements.specs.Plants.{plantOf}
 use Rattle.statements.specs.Calls.{returnFault}
 use Rattle.decoding.proofs.Faults.{WithdrawOk, withdraw-ok}
 use Rattle.books.proofs.Made.{made-fits, writes-refused, return-done}
-use Rattle.promises.proofs.Demands.{demands}
+use Rattle.promises.proofs.Demands.{of-return}
 use borrow.Author.Needs.{needs}
 use Rattle.books.proofs.return_moves.Statement.{statement}
 use Rattle.books.proofs.return_moves.Tie as tie
@@ -32,7 +32,7 @@ returns c =
             writes-refused _ fault _ _ (now (a .out)) (now (a .gained)) (c .refused .ensures)
             (e .before .withdraw .ensures) (e .if1 .taken);
       },
-      demands,
+      of-return,
     )
 
 mask-requires : tie.Need-mask-requires
@@ -90,7 +90,7 @@ returns-2 c =
     let m = k .before .before in (
       return-done _ _ _ (fine (m .before)) (m .mask .ensures) (k .book .ensures .0) (k .book .ensures .1)
           (d .dropped .ensures .0) (d .dropped .ensures .1),
-      demands,
+      of-return,
     )
 
 pub return-moves-spec : {M : Type 1} → statement M

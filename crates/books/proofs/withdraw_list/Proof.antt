@@ -8,7 +8,7 @@ use Rattle.statements.specs.Calls.{withdrawFault, withdrawListFault}
 use Rattle.decoding.proofs.Faults.{list-at-once}
 use Rattle.books.proofs.Made.{writes-refused}
 use Rattle.promises.proofs.InTurn.{as-list}
-use Rattle.promises.proofs.Demands.{demands}
+use Rattle.promises.proofs.Demands.{of-withdraw-list}
 use borrow.Author.Needs.{needs}
 use Rattle.books.proofs.withdraw_list.Statement.{statement}
 use Rattle.books.proofs.withdraw_list.Tie as tie
@@ -31,7 +31,7 @@ returns c =
             writes-refused _ fault _ _ (now (a .out)) (now (a .drops)) (c .refused .ensures)
             (e .before .withdraw-list .ensures) (e .if1 .taken);
       },
-      demands,
+      of-withdraw-list,
     )
 
 union-requires : tie.Need-union-requires
@@ -66,7 +66,7 @@ returns-2 : tie.Need-returns-2
 returns-2 c =
     let d = c .before .before .before .before in
     let u = d .before .before .before in
-    (as-list (rw (u .union .ensures) at (d .accepted .ensures)) (fine (u .before)), demands)
+    (as-list (rw (u .union .ensures) at (d .accepted .ensures)) (fine (u .before)), of-withdraw-list)
 
 pub withdraw-list-spec : {M : Type 1} → statement M
 withdraw-list-spec =

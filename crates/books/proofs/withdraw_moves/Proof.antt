@@ -5,7 +5,7 @@ use denote.Ref.{now}
 use lib.ListN.{length}
 use Rattle.statements.specs.Calls.{withdrawFault}
 use Rattle.books.proofs.Made.{writes-refused}
-use Rattle.promises.proofs.Demands.{demands}
+use Rattle.promises.proofs.Demands.{of-withdraw}
 use borrow.Author.Needs.{needs}
 use Rattle.books.proofs.withdraw_moves.Statement.{statement}
 use Rattle.books.proofs.withdraw_moves.Tie as tie
@@ -27,7 +27,7 @@ returns c =
             writes-refused _ fault _ _ (now (a .out)) (now (a .drops)) (c .refused .ensures)
             (e .before .withdraw .ensures) (e .if1 .taken);
       },
-      demands,
+      of-withdraw,
     )
 
 -- past the test the call is accepted
@@ -46,7 +46,7 @@ same-length-2 : tie.Need-same-length-2
 same-length-2 c = search needs
 
 returns-2 : tie.Need-returns-2
-returns-2 c = (c .before .before .before .before .accepted .ensures, demands)
+returns-2 c = (c .before .before .before .before .accepted .ensures, of-withdraw)
 
 pub withdraw-moves-spec : {M : Type 1} → statement M
 withdraw-moves-spec =

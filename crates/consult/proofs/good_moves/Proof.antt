@@ -8,7 +8,7 @@ use Rattle.statements.specs.Plants.{plantOf}
 use Rattle.statements.specs.Books.{goodMoves}
 use Rattle.statements.specs.Calls.{movesFault}
 use Rattle.decoding.proofs.Asked.{moves-fine}
-use Rattle.promises.proofs.Demands.{demands}
+use Rattle.promises.proofs.Demands.{of-moves}
 use Rattle.consult.proofs.good_moves.Statement.{statement}
 use Rattle.consult.proofs.good_moves.Tie as tie
 
@@ -16,7 +16,7 @@ moves-requires : tie.Need-moves-requires
 moves-requires c κs = search needs
 
 returns : tie.Need-returns
-returns c = (record { number = c .before .moves .ensures; mask = rw (ne-eqb _ _ (c .if1 .taken)) }, demands)
+returns c = (record { number = c .before .moves .ensures; mask = rw (ne-eqb _ _ (c .if1 .taken)) }, of-moves)
 
 -- past the test, the call is accepted
 accepted-call : (c : tie.Else1)
@@ -40,7 +40,7 @@ returns-2 c =
         number = sym (accepted-call (c .before .before));
         mask = good ∙ ap (goodMoves (plantOf (now (a .plant))) (now (a .book)) (a .state)) (c .before .arrive .ensures);
       },
-      demands,
+      of-moves,
     )
 
 pub good-moves-spec : {M : Type 1} → statement M
