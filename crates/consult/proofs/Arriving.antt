@@ -3,11 +3,10 @@
 use mathlib.Core.Path.{_≡_, sym, ap, ap₂, _∙_}
 use mathlib.Core.Bool.{Bool, true, false, not}
 use mathlib.Core.List.{List}
-use Prim.Native.Nat.{ℕ, suc, _+_, _-_, _≤_, _<_}
-use native.Mathlib.Nat.{sub-zero}
+use Prim.Native.Nat.{ℕ, suc, _+_, _-_, _%_, _≤_, _<_}
+use native.Mathlib.Nat.{add-assoc, mod-add-mod, sub-zero}
 use native.Mathlib.Numerals.{add-one}
 use native.Mathlib.Omega.{arith}
-use native.Mathlib.Decide.{decLt}
 use lib.Dec.{eqb}
 use borrow.Author.Tests.{eq-eqb, ne-eqb}
 use Rattle.statements.specs.Sets.{first}
@@ -17,25 +16,15 @@ use Rattle.winning.proofs.Goals.{after-on, after-round, after-below, Stops}
 
 -- the goal after the last is the first, and after another the next
 pub next-first : (n i : ℕ) → i + 1 ≡ n → goalAfter n i 1 ≡ 0
-next-first n i e = omega (arith, after-round n i 1 (omega arith))
+next-first n i e = omega (arith, after-round n i 1 (omega arith) (omega arith))
 
 pub next-on : (n i : ℕ) → i < n → (i + 1 ≡ n → ⊥) → goalAfter n i 1 ≡ i + 1
 next-on n i h e = after-on n i 1 (omega arith)
 
 -- the next in turn is one place further on
-next-after : (n i k : ℕ) → i < n → k < n → goalAfter n (goalAfter n i k) 1 ≡ goalAfter n i (k + 1)
-next-after n i k hi hk =
-    elim (decLt (i + k) n) [
-      | yes l ↦
-          rw (after-on n i k l)
-          (elim (decLt (i + k + 1) n) [
-            | yes m ↦ omega (arith, after-on n (i + k) 1 m, after-on n i (k + 1) (omega arith))
-            | no m ↦ omega (arith, after-round n (i + k) 1 (omega arith), after-round n i (k + 1) (omega arith))
-          ])
-      | no l ↦
-          rw (after-round n i k (omega arith))
-          (omega (arith, after-on n (i + k - n) 1 (omega arith), after-round n i (k + 1) (omega arith)))
-    ]
+next-after : (n i k : ℕ) → goalAfter n (goalAfter n i k) 1 ≡ goalAfter n i (k + 1)
+unfolding goalAfter
+next-after n i k = mod-add-mod (i + k) n 1 ∙ ap (λ (m : ℕ). m % n) (add-assoc i k 1)
 
 -- in a book b of n goals, for state x and the sought goal i, the loop has passed k goals and is at goal at
 pub record Passing (b : List ℕ) (x i n at k : ℕ) : Type 0 where
@@ -60,7 +49,7 @@ pass-start b x i n e h =
 module _ {b : List ℕ} {x i n at k : ℕ} (p : Passing b x i n at k) where
   -- it is at a goal
   pub pass-below : at < n
-  pass-below = rw (p .here) (after-below n i k (p .sought) (p .few))
+  pass-below = rw (p .here) (after-below n i k (p .sought))
 
   -- if k are passed in all it is the goal arrived at
   at-arrived : passes b x i ≡ k → at ≡ arrive b x i
@@ -92,7 +81,7 @@ module _ {b : List ℕ} {x i n at k : ℕ} (p : Passing b x i n at k) where
         goals = p .goals;
         sought = p .sought;
         few = omega arith;
-        here = e ∙ ap (λ (j : ℕ). goalAfter n j 1) (p .here) ∙ next-after n i k (p .sought) h;
+        here = e ∙ ap (λ (j : ℕ). goalAfter n j 1) (p .here) ∙ next-after n i k;
         rest =
             rest-turn h
             ∙ first-no (n - (k + 1)) k (Stops b x i) (stops-here true (eq-eqb _ 0 w))

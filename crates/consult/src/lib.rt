@@ -3,14 +3,9 @@ mod goals;
 
 use promises::Advice;
 use promises::Mask;
-ghost use mathlib.Core.Path.{_≡_};
-ghost use mathlib.Core.Bool.{not};
-ghost use Prim.Native.Nat.{_+_};
-ghost use lib.Dec.{eqb};
-ghost use lib.ListN.{length};
-ghost use Rattle.statements.specs.Calls.{rowPart};
 ghost use Rattle.statements.specs.Demands.{Arriving};
-ghost use Rattle.promises.specs.Says.{accepted, ConsultSays, MovesSays, rowStart, Determined};
+ghost use Rattle.promises.specs.Says.{ConsultSays, MovesSays, RowSays, Determined};
+ghost use Rattle.promises.specs.Rows.{Rows};
 ghost use Rattle.promises.specs.Walks.{Walks};
 
 // Takes a book, a state and the goal sought. Answers lost, or the goal arrived at, where every goal that the state
@@ -67,10 +62,9 @@ pub fn good_moves(plant: &[u8], book: &[u8], state: u32, goal: u32) -> Mask
 
 // Takes a book and a state and hands back that state's row as the part of the book lent; an empty part when refused.
 pub fn state_row<'a>(book: &'a [u8], state: u32) -> &'a [u8]
-    ensures bytes { λ r. ⌜ now r ≡ rowPart (now (book .entry)) state ⌝ }
-    ensures lent { λ r. ⌜ r .ptr .0 ≡ book .entry .ptr .0 ⌝ }
-    ensures place { λ r. ⌜ r .ptr .1 ≡ book .entry .ptr .1 + rowStart (now (book .entry)) state ⌝ }
-    ensures empty { λ r. ⌜ eqb (length (now r)) 0 ≡ not (accepted (now (book .entry)) state 0) ⌝ }
+    ensures { λ r. ⌜ RowSays (now (book .entry)) state (book .entry .ptr) (now r) (r .ptr) ⌝ }
+    ensures row_reads { λ _. ⌜ Rows ⌝ }
+    ensures row_determined { λ _. ⌜ Determined ⌝ }
 {
     if refusals::consult(book, state, 0) != 0 {
         return &book[..0];

@@ -1,18 +1,18 @@
 -- The ranges of the numbers of states, moves and goals in plants and books, how long a book and a list of states can be,
 -- and that buffers with room have it. Assumes nothing.
-use mathlib.Core.Path.{_≡_, refl}
+use mathlib.Core.Path.{_≡_, refl, subst}
 use mathlib.Core.Logic.{inl, inr}
 use mathlib.Core.Bool.{Bool, true, false, not}
 use mathlib.Core.List.{List, [], _∷_}
 use Prim.Native.Nat.{ℕ, _+_, _*_, _≤_, _<_}
-use native.Mathlib.Nat.{mul-le-mul}
+use native.Mathlib.Nat.{suc-mul, mul-le-mul, mul-le-mul-right}
 use native.Mathlib.Omega.{arith}
 use lib.ListN.{length}
 use borrow.Author.Tests.{leb-true, eqb-true, eq-eqb, ne-eqb}
 use Rattle.statements.specs.Sets.{numbers}
 use Rattle.statements.specs.Plants.{Plant}
 use Rattle.statements.specs.Books.{two, bytesOf, bookLong, bookStates, bookGoals, bookTotal, staged, rowPlace}
-use Rattle.statements.specs.Books.{entryPlace, isLost, bookKept, droppedStates}
+use Rattle.statements.specs.Books.{rowLong, entryPlace, isLost, bookKept, droppedStates}
 use Rattle.sets.proofs.Tests.{decided}
 use Rattle.statements.specs.Calls.{bookRoom, dropRoom}
 use Rattle.sets.proofs.Members.{filter-length, length-numbers}
@@ -77,6 +77,18 @@ entry-place b x i =
       | inl e ↦ rw e (omega arith)
       | inr e ↦ rw e (omega arith)
     ]
+
+-- how long a row is, and that a state's row ends before the next state's
+pub row-long : (b : List ℕ) → rowLong b ≡ opening (staged b) + bookGoals b * 4
+unfolding rowLong opening
+row-long b =
+    elim (decided (staged b)) [
+      | inl e ↦ rw e (omega arith)
+      | inr e ↦ rw e (omega arith)
+    ]
+
+pub row-within : {s : ℕ} (x n : ℕ) → x < s → x * n + n ≤ s * n
+row-within {s} x n h = subst (λ (k : ℕ). k ≤ s * n) (suc-mul x n) (mul-le-mul-right n h)
 
 -- two bytes for each number
 pub bytes-length : (xs : List ℕ) → length (bytesOf xs) ≡ 2 * length xs

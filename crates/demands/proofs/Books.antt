@@ -1,19 +1,18 @@
 -- A book's bytes are what document 01 says of them, and no other bytes are: kept states are winners, waits are the
 -- least within which a goal is forced, and listed moves the lowest that serve. Assumes nothing.
-use mathlib.Core.Path.{_≡_, refl, sym, _∙_}
-use mathlib.Core.Logic.{_↔_, Iff·trans}
+use mathlib.Core.Path.{_≡_, sym, _∙_}
+use mathlib.Core.Logic.{_↔_, inl, inr, ⊎-elim, Iff·trans}
 use mathlib.Core.Bool.{Bool, true, false}
 use mathlib.Core.List.{List}
 use Prim.Native.Nat.{ℕ, suc, _≤_, _<_}
 use native.Mathlib.Omega.{arith}
 use Rattle.statements.specs.Plants.{Plant}
-use Rattle.statements.specs.Kept.{keptWithin, stageOf, stageFor}
+use Rattle.statements.specs.Kept.{keptWithin, stageOf}
 use Rattle.statements.specs.Books.{waitAt, moveAt, stageAt, bookFault, ruleIn, bookWithin}
 use Rattle.statements.specs.Strategies.{InGoal, Wins, following}
 use Rattle.statements.specs.Demands.{Lowest, Nearer, Below, Arrived, Onward, HasStages, IsBook, Right}
 use Rattle.sets.proofs.Tests.{not-both}
 use Rattle.kept.proofs.Moves.{move-lowest}
-use Rattle.kept.proofs.Waits.{wait-exit}
 use Rattle.kept.proofs.Kept.{stage-range, shown-staged}
 use Rattle.winning.proofs.Runs.{forces-same, wins-by-larger}
 use Rattle.winning.proofs.Following.{Closer, Target, follows, run-few}
@@ -22,12 +21,12 @@ use Rattle.decoding.proofs.Header.{read-total}
 use Rattle.decoding.proofs.Bytes.{book-bytes}
 use Rattle.decoding.proofs.Accepted.{book-count, book-accepted}
 use Rattle.demands.proofs.Plants.{Given, some-goal, given-fits}
-use Rattle.demands.proofs.Rows.{IsKept, CanLeave, lost-kept, book-wait, book-stage, one-stage, sound, here}
-use Rattle.demands.proofs.Rows.{wait-own}
+use Rattle.demands.proofs.Rows.{IsKept, CanLeave, lost-kept, book-wait, book-stage, one-stage, no-wait}
 use Rattle.demands.proofs.Rules.{rule-iff, book-move, book-into}
 use Rattle.demands.proofs.Winners.{Within, guides, winners, waits}
 use Rattle.demands.proofs.Staying.{leave-iff, stages-are}
-use Rattle.demands.proofs.Words.{lowest-as, plain-words, leave-words, onward-words, plain-target, staged-target}
+use Rattle.demands.proofs.Words.{lowest-as, never-leaves, plain-words, leave-words, onward-words}
+use Rattle.demands.proofs.Words.{plain-target, staged-target}
 use Rattle.demands.proofs.Same.{one-book}
 use Rattle.demands.proofs.Picks.{good-safe, good-iff, exit-iff, onward-iff, listed-lowest, picks-serve}
 
@@ -67,9 +66,7 @@ module _ {p : Plant} {mask : ℕ} {within : ℕ → Bool} (given : Given p mask 
         );
         exit-wait = λ x i hx hi w q.
             let h = winners given x .1 w in
-            let s = stageFor p mask (keptWithin p mask within) x in
-            wait-own given x h i hi x h refl
-            ∙ wait-exit p mask s (some-goal given) (sound given x h) i hi x (here given x h) (leave-iff given x h .1 q);
+            no-wait given x h i hi .1 (inr (leave-iff given x h .1 q));
         exit-move = λ x i hx hi w q.
             let h = winners given x .1 w in
             lowest-as p mask x (moveAt b x i) (Closer (IsKept p mask within) (CanLeave p mask within) b x i)
@@ -147,6 +144,18 @@ module _ {p : Plant} {mask : ℕ} {within : ℕ → Bool} (given : Given p mask 
         short = λ x i hx hi w.
             let h = winners given x .1 w in
             rw (book-wait given x i h hi) (given-fits given .waits x i h hi);
+        served = λ e x i hx hi w.
+            let h = winners given x .1 w in
+            Iff·trans (no-wait given x h i hi) (
+              λ t. ⊎-elim (λ g. g) (λ l. absurd (never-leaves given x e h l)) t,
+              λ g. inl g,
+            );
+        exit-served = λ e x i hx hi w.
+            let h = winners given x .1 w in
+            Iff·trans (no-wait given x h i hi) (
+              λ t. ⊎-elim (λ g. inl g) (λ l. inr (leave-iff given x h .0 l)) t,
+              λ t. ⊎-elim (λ g. inl g) (λ q. inr (leave-iff given x h .1 q)) t,
+            );
         follows = λ x goal hx hg e.
             wins-by-larger p mask (IsKept p mask within) (Wins p mask (Within within)) (λ y. winners given y .0) x
             (following (bookWithin p mask within) goal)

@@ -14,11 +14,13 @@ use Rattle.statements.specs.Plants.{Plant, can}
 use Rattle.statements.specs.Kept.{keptWithin, stageOf, Stage, stageFor, waitIn, waitOf, nearer, landing, listedMove}
 use Rattle.statements.specs.Books.{bookGoals, bookMask, waitAt, moveAt, stageAt, staged, isLost, bookKept}
 use Rattle.statements.specs.Books.{bookWithin}
+use Rattle.statements.specs.Strategies.{InGoal}
 use Rattle.sets.proofs.Tests.{decided, not-both}
 use Rattle.sets.proofs.Members.{Sifted, sifted-sub}
 use Rattle.kept.proofs.Kept.{kept-within, for-sound, for-through, earlier-sifted, through-sifted, shownStage}
 use Rattle.kept.proofs.Kept.{through-iff, earlier-iff, same-stage}
-use Rattle.kept.proofs.Waits.{Sound, nearer-holds, nearer-in, wait-exit, landing-exit, landing-nearer}
+use Rattle.kept.proofs.Waits.{Sound, wait-goal, goal-wait, wait-exit, nearer-holds, nearer-in, landing-exit}
+use Rattle.kept.proofs.Waits.{landing-nearer}
 use Rattle.winning.proofs.Following.{Closer}
 use Rattle.decoding.proofs.Header.{read-goals, read-mask, read-staged}
 use Rattle.decoding.proofs.Entries.{wait-kept, move-kept, stage-plain, stage-kept}
@@ -144,6 +146,18 @@ module _ {p : Plant} {mask : ℕ} {within : ℕ → Bool} (given : Given p mask 
       wait-earlier y hy l =
           let m = book-earlier y .1 (hy, l) in
           wait-exit p mask S (some-goal given) sound i hi y (sound .lower y m) (sound .over y m)
+
+      -- a wait is 0 exactly in the goal and where the state can leave
+      pub no-wait : (waitAt B x i ≡ 0) ↔ (InGoal p i x ⊎ CanLeave p mask within x)
+      no-wait = (
+        λ e.
+            ⊎-elim (λ t. inr t) (λ t. inl t)
+            (wait-goal p mask S (some-goal given) sound i hi x here (sym (wait-own x hx refl) ∙ e)),
+        λ t.
+            wait-own x hx refl
+            ∙ ⊎-elim (goal-wait p mask S (some-goal given) sound i hi x here)
+            (wait-exit p mask S (some-goal given) sound i hi x here) t,
+      )
 
       -- where a move may end by the stage of x is where it is closer in the book
       pub closer-landing : (y : ℕ) → Next i y → isIn y (landing p mask S i x) ≡ true

@@ -18,7 +18,7 @@ use Rattle.kept.proofs.Held.{held-within}
 use Rattle.kept.proofs.Stages.{stages-suc, stages-full, calm}
 use Rattle.kept.proofs.Kept.{kept-plain, kept-staged, kept-within, shownStage, shown-staged}
 use Rattle.kept.proofs.Kept.{same-stage, settled-or-leaves}
-use Rattle.kept.proofs.Waits.{level-wait, wait-goal, far-goal, far-step}
+use Rattle.kept.proofs.Waits.{level-wait, far-goal, far-step}
 use Rattle.kept.proofs.Ranks.{rankOf, goalOf, goal-range, escape}
 use Rattle.winning.proofs.Runs.{wins-larger}
 use Rattle.winning.proofs.Winners.{Escapes, no-run}
@@ -26,7 +26,7 @@ use Rattle.winning.proofs.Following.{Guides, Target, forces, follows}
 use Rattle.winning.proofs.Fewest.{too-far}
 use Rattle.demands.proofs.Plants.{Given, moves-below, some-goal}
 use Rattle.demands.proofs.Rows.{IsKept, CanLeave, lost-kept, book-goals, book-stage, one-stage, sound, here}
-use Rattle.demands.proofs.Rows.{book-through, book-earlier, wait-own}
+use Rattle.demands.proofs.Rows.{book-through, book-earlier, wait-own, no-wait}
 use Rattle.demands.proofs.Rules.{rule-iff, book-into}
 
 -- the states at which a test holds
@@ -52,10 +52,7 @@ module _ {p : Plant} {mask : ℕ} {within : ℕ → Bool} (given : Given p mask 
       record {
         goals = book-goals given;
         shown = λ x h. lost-kept given x (kept-within p mask within x h .0) .1 h;
-        met = λ x i h hi e.
-            ⊎-elim (λ t. inr t) (λ t. inl t)
-            (wait-goal p mask (stageFor p mask (keptWithin p mask within) x) (some-goal given) (sound given x h) i hi x
-            (here given x h) (sym (wait-own given x h i hi x h refl) ∙ e));
+        met = λ x i h hi e. no-wait given x h i hi .0 e;
         rule = λ x i h hi. rule-iff given x h i hi (moveAt B x i) .0 (book-into given x h i hi);
         from-one = from-one;
         calm = λ e x h. settled-or-leaves p mask within (some-goal given) x h e;

@@ -169,6 +169,9 @@ module _ (p : Plant) (mask : ℕ) (s : Stage) (some-goal : 0 < p .goals) (sound 
       pub wait-goal : waitIn p mask done kept i x ≡ 0 → (done x ≡ true) ⊎ (inGoal p i x ≡ true)
       wait-goal e = level-goal x (wait-level 0 (omega arith))
 
+      pub goal-wait : inGoal p i x ≡ true → waitIn p mask done kept i x ≡ 0
+      goal-wait e = let l = level-wait 0 (goal-level x is-kept e) in omega arith
+
       pub wait-exit : done x ≡ true → waitIn p mask done kept i x ≡ 0
       wait-exit e = let l = level-wait 0 (exit-level x is-kept e) in omega arith
 

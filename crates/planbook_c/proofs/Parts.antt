@@ -9,7 +9,7 @@ use Rattle.statements.specs.Books.{staged, rowPlace, rowLong}
 use Rattle.statements.specs.Calls.{consultFault}
 use Rattle.decoding.proofs.Sizes.{long-most}
 use Rattle.decoding.proofs.Asked.{fine}
-use Rattle.consult.proofs.Consulted.{no-row, no-start, start-given, length-row, row-fits}
+use Rattle.promises.proofs.Rows.{no-row, no-start, start-given, length-row, row-fits}
 use Rattle.planbook_c.specs.Flat.{PartSays}
 
 -- refused: the number, and 0 in the other fields

@@ -6,6 +6,7 @@ use Rattle.demands.proofs.Demand3.{demand-3}
 use Rattle.demands.proofs.InTurn.{in-turn}
 use Rattle.demands.proofs.Returning.{returning}
 use Rattle.promises.specs.Says.{Listed, Determined}
+use Rattle.promises.specs.Rows.{Rows}
 use Rattle.promises.specs.Written.{Demand-2-written}
 use Rattle.promises.specs.Previews.{Previews}
 use Rattle.promises.specs.Traces.{Demand-3-traced}
@@ -13,6 +14,7 @@ use Rattle.promises.specs.InTurn.{In-turn-traced}
 use Rattle.promises.specs.Returning.{Returning-traced}
 use Rattle.promises.specs.Walks.{Walks}
 use Rattle.promises.proofs.Listed.{lists-dropped}
+use Rattle.promises.proofs.Rows.{rows}
 use Rattle.promises.proofs.Previewed.{previewed}
 use Rattle.promises.proofs.Determined.{determined}
 use Rattle.promises.proofs.Traces.{demand-3-traced}
@@ -44,3 +46,6 @@ of-consult = (arriving, (walks, determined))
 
 pub of-moves : Arriving × (Walks × Determined)
 of-moves = (arriving, (walks, determined))
+
+pub of-row : Rows × Determined
+of-row = (rows, determined)

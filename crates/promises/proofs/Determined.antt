@@ -23,6 +23,9 @@ same-answer en el ed = λ k. record { number = en k; length = el k; drops = ed k
 same-cost : {c c′ : Cost} → c .number ≡ c′ .number → c .drops ≡ c′ .drops → c .kept ≡ c′ .kept → c ≡ c′
 same-cost en ed ek = λ k. record { number = en k; drops = ed k; kept = ek k }
 
+same-pointer : {q q′ : ℕ × ℕ} → q .0 ≡ q′ .0 → q .1 ≡ q′ .1 → q ≡ q′
+same-pointer eb ep = λ k. (eb k, ep k)
+
 -- what is written, and its answer
 same-written : {number : ℕ} {after listed o o′ o″ d d′ d″ : List ℕ} {r r′ : Answer}
     → Writes number after listed o o′ d d′ r → Writes number after listed o o″ d d″ r′
@@ -36,4 +39,5 @@ determined =
       moves = λ h k. same-mask (cc) (cc);
       writes = λ h k. same-written (h .writes) (k .writes);
       preview = λ h k. (same-cost (cc) (cc) (cc), cc);
+      row = λ h k. (cc, same-pointer (cc) (cc));
     }

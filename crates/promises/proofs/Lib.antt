@@ -1,6 +1,7 @@
 -- Laws of what the public calls promise, and what that comes to.
 pub mod Read
 pub mod Listed
+pub mod Rows
 pub mod Previewed
 pub mod Determined
 pub mod Traces

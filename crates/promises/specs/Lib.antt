@@ -1,6 +1,8 @@
--- What the public calls promise, demand 2 of what they wrote, a preview against the withdrawal, demand 3 over the calls as they go, a list of
--- withdrawals against the single ones, a return against a making and a withdrawal, and moves taken from the calls.
+-- What the public calls promise, rows as they are read, demand 2 of what they wrote, a preview against the withdrawal,
+-- demand 3 over the calls as they go, a list of withdrawals against the single ones, a return against a making and a
+-- withdrawal, and moves taken from the calls.
 pub mod Says
+pub mod Rows
 pub mod Written
 pub mod Previews
 pub mod Traces

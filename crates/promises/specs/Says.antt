@@ -14,8 +14,8 @@ use Rattle.statements.specs.Sets.{pick, over, isIn}
 use Rattle.statements.specs.Plants.{words, plantOf}
 use Rattle.statements.specs.Books.{bytesOf, bookCount, rowPlace, waitAt, moveAt, isLost, arrive, goodMoves}
 use Rattle.statements.specs.Books.{withdrawnBook, droppedStates}
-use Rattle.statements.specs.Calls.{consultFault, movesFault, previewFault, Ask, makes, withdraws, withdrawsList}
-use Rattle.statements.specs.Calls.{returns, effectOf}
+use Rattle.statements.specs.Calls.{consultFault, movesFault, previewFault, rowPart, Ask, makes, withdraws}
+use Rattle.statements.specs.Calls.{withdrawsList, returns, effectOf}
 use Rattle.statements.specs.Demands.{Rising}
 
 -- a call on a book is accepted
@@ -45,6 +45,15 @@ pub record MovesSays (s b : List ℕ) (x i : ℕ) (r : Mask) : Type 0 where
 -- where in a book b the row of state x starts; 0 when refused
 unfoldable pub rowStart : List ℕ → ℕ → ℕ
 rowStart b x = pick (accepted b x 0) (rowPlace b x) 0
+
+-- handing back the row of state x as a part of a book that is lent with bytes b: its bytes; it is in the book's block of
+-- memory, as far behind the book's start as the row is; and it is empty exactly when refused. A pointer is a block and
+-- a place in it
+pub record RowSays (b : List ℕ) (x : ℕ) (lent : ℕ × ℕ) (row : List ℕ) (part : ℕ × ℕ) : Type 0 where
+  pub bytes : row ≡ rowPart b x
+  pub block : part .0 ≡ lent .0
+  pub place : part .1 ≡ lent .1 + rowStart b x
+  pub empty : eqb (length row) 0 ≡ not (accepted b x 0)
 
 -- a call that answers a number, and if that is 0 writes a book and a list of states, each from its buffer's first byte
 -- on, and returns the book's length and how many states are listed; a refused one writes nothing and has 0 in every
@@ -111,3 +120,5 @@ pub record Determined : Type 0 where
       Says s b ask o o′ d d′ r → Says s b ask o o″ d d″ r′ → (r ≡ r′) × (o′ ≡ o″) × (d′ ≡ d″)
   pub preview : {s b d d′ d″ : List ℕ} {gone : ℕ} {c c′ : Cost} →
       PreviewSays s b gone d d′ c → PreviewSays s b gone d d″ c′ → (c ≡ c′) × (d′ ≡ d″)
+  pub row : {b row row′ : List ℕ} {x : ℕ} {lent part part′ : ℕ × ℕ} →
+      RowSays b x lent row part → RowSays b x lent row′ part′ → (row ≡ row′) × (part ≡ part′)

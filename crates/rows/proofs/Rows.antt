@@ -1,9 +1,8 @@
 -- Rows of a book, entry by entry: a state is lost or held when its entries are, each at its place. Assumes nothing.
-use mathlib.Core.Path.{_≡_, refl, sym, ap, ap₂, _∙_, subst}
+use mathlib.Core.Path.{_≡_, refl, sym, ap, ap₂, _∙_}
 use mathlib.Core.Bool.{Bool, true, false, _&&_, _||_, not}
 use mathlib.Core.List.{List}
 use Prim.Native.Nat.{ℕ, zero, suc, _+_, _-_, _*_, _^_, _≤_, _<_}
-use native.Mathlib.Nat.{suc-mul, mul-le-mul-right}
 use native.Mathlib.Omega.{arith}
 use lib.Dec.{eqb, leb}
 use lib.ListN.{length, drop}
@@ -21,10 +20,6 @@ use Rattle.rows.proofs.Loops.{countFrom, count-start, count-more, count
 and-yes : (t : Bool) → t ≡ t && true
 and-yes true = refl
 and-yes false = refl
-
--- a state's row ends before the next state's
-pub row-within : {s : ℕ} (x n : ℕ) → x < s → x * n + n ≤ s * n
-row-within {s} x n h = subst (λ (k : ℕ). k ≤ s * n) (suc-mul x n) (mul-le-mul-right n h)
 
 -- the wait is the number at the entry's place
 pub wait-place : (b : List ℕ) (x i : ℕ) → waitAt b x i ≡ word 0 (drop (entryPlace b x i) b)

@@ -22,8 +22,9 @@ use Rattle.statements.specs.Calls.{alike, lentFault, withdrawFault, with
 use Rattle.statements.specs.Calls.{consultFault, movesFault, rowPart, answerOf}
 use Rattle.statements.specs.Calls.{standingAfter, standing, answers, toldOf, numberTold, told, putAfter, inService}
 use Rattle.statements.specs.Marked.{plantP, plantStill, plantLoop, plantMay, plantEnd, bookP, lostRow}
-use Rattle.statements.specs.Marked.{bookM1, bookM2, bookM9, bookBoth, bookBoth9, bookFour, bookThree, allLost}
-use Rattle.statements.specs.Marked.{Marked, fifteen, Marked-arrivals, Marked-moves, Marked-previews}
+use Rattle.statements.specs.Marked.{bookM1, bookM2, bookM9, bookBoth, bookBoth9, bookFour, bookThree, bookFive}
+use Rattle.statements.specs.Marked.{bookEight, allLost}
+use Rattle.statements.specs.Marked.{Marked, fifteen, Marked-arrivals, Marked-rows, Marked-moves, Marked-previews}
 use Rattle.statements.specs.Marked.{Marked-lists, outAndBack, Marked-returns}
 use Rattle.statements.specs.MarkedStages.{plantOne, bookOne, plantLeave, plantUnfair, plantDown, plantDetour}
 use Rattle.statements.specs.MarkedStages.{bookDetour, bookDetour0, plantMixed, plantTwo, bookTwo, bookTwoLow}
@@ -49,7 +50,7 @@ marked =
     }
 
 pub marked-arrivals : Marked-arrivals
-unfolding bit numbers every first filter word two bookLong bookStates bookMoves bookGoals bookCount bookMask bookTotal staged rowPlace entryPlace rowLong waitAt moveAt stageAt stageLost isLost stageHeld isHeld bookKept maskOk bookHeadOk rowsOk bookFault goalAfter served passes arrive numberFault consultFault bytesOf bookThree
+unfolding bit numbers every first filter word two bookLong bookStates bookMoves bookGoals bookCount bookMask bookTotal staged rowPlace entryPlace rowLong waitAt moveAt stageAt stageLost isLost stageHeld isHeld bookKept maskOk bookHeadOk rowsOk bookFault goalAfter served passes arrive numberFault consultFault bytesOf bookThree bookFive bookEight
 marked-arrivals =
     record {
       none = record { accepted = refl; move-is = refl; wait-is = refl; seek-is = refl };
@@ -61,7 +62,25 @@ marked-arrivals =
       until = record { accepted = refl; move-is = refl; wait-is = refl; seek-is = refl };
       all = record { accepted = refl; move-is = refl; wait-is = refl; seek-is = refl };
       last = record { accepted = refl; move-is = refl; wait-is = refl; seek-is = refl };
+      five = record { accepted = refl; move-is = refl; wait-is = refl; seek-is = refl };
+      five-round = record { accepted = refl; move-is = refl; wait-is = refl; seek-is = refl };
+      five-all = record { accepted = refl; move-is = refl; wait-is = refl; seek-is = refl };
+      eight = record { accepted = refl; move-is = refl; wait-is = refl; seek-is = refl };
+      eight-round = record { accepted = refl; move-is = refl; wait-is = refl; seek-is = refl };
+      eight-all = record { accepted = refl; move-is = refl; wait-is = refl; seek-is = refl };
       no-goal = refl;
+    }
+
+pub marked-rows : Marked-rows
+unfolding bit numbers every first filter word two bookLong bookStates bookMoves bookGoals bookCount bookMask bookTotal staged rowPlace entryPlace rowLong waitAt moveAt stageAt stageLost isLost stageHeld isHeld bookKept maskOk bookHeadOk rowsOk bookFault numberFault consultFault bytesOf bookThree rowPart bookP lostRow bookM1
+marked-rows =
+    record {
+      first-state = refl;
+      second-state = refl;
+      lost = refl;
+      low-first = refl;
+      no-state = refl;
+      no-book = refl;
     }
 
 pub marked-moves : Marked-moves
@@ -200,6 +219,8 @@ answered-stages =
       moves-lost = refl;
       moves-high = refl;
       row = refl;
+      lost-row = refl;
+      no-row = refl;
       last-two = refl;
       free = refl;
       not-free = refl;

@@ -156,7 +156,7 @@ bookFault b = firstOf (when (not (bookHeadOk b)) 4) (when (not (rowsOk b)) 5)
 
 -- the goal that comes k places after goal i of n, in turn: after the last the first
 unfoldable pub goalAfter : ℕ → ℕ → ℕ → ℕ
-goalAfter n i k = pick (ltb (i + k) n) (i + k) (i + k - n)
+goalAfter n i k = (i + k) % n
 
 -- a goal is served in a state when its wait there is 0
 unfoldable pub served : List ℕ → ℕ → ℕ → Bool

@@ -132,6 +132,12 @@ pub record Right (p : Plant) (mask : ℕ) (within : ℕ → Type 0) (b : List �
   pub accepted : bookFault b ≡ 0
   -- a wait is at most 1,023
   pub short : (x i : ℕ) → x < p .states → i < p .goals → Wins p mask within x → waitAt b x i ≤ 1023
+  -- it is 0 exactly in the goal
+  pub served : p .settles ≡ false → (x i : ℕ) → x < p .states → i < p .goals → Wins p mask within x →
+      (waitAt b x i ≡ 0) ↔ InGoal p i x
+  -- where the plant settles: exactly there and in states with an available move wholly into stages below their own
+  pub exit-served : p .settles ≡ true → (x i : ℕ) → x < p .states → i < p .goals → Wins p mask within x →
+      (waitAt b x i ≡ 0) ↔ (InGoal p i x ⊎ Exits p mask within b (stageAt b x) x)
   -- following the book from a kept state and any first goal wins without leaving kept states
   pub follows : (x goal : ℕ) → x < p .states → goal < p .goals → isLost b x ≡ false →
       Wins-by p mask (Wins p mask within) x (following b goal)
@@ -163,6 +169,11 @@ pub record Right (p : Plant) (mask : ℕ) (within : ℕ → Type 0) (b : List �
 -- request (v), of any book, any state and any goal sought of the book's: every goal that the state serves is passed,
 -- from the sought one onward in turn, until one that it does not serve; if it serves all of them, the sought one stays
 pub record Arriving : Type 0 where
+  -- in turn, of any number of goals and any number of places on: first the goal itself, then always the next one, and
+  -- after the last the first
+  pub itself : (n i : ℕ) → i < n → goalAfter n i 0 ≡ i
+  pub next : (n i k : ℕ) → suc (goalAfter n i k) < n → goalAfter n i (suc k) ≡ suc (goalAfter n i k)
+  pub after-last : (n i k : ℕ) → suc (goalAfter n i k) ≡ n → goalAfter n i (suc k) ≡ 0
   -- if k goals from the sought one on are served, and the next is not, that is the goal arrived at
   pub until : (b : List ℕ) (x i k : ℕ) → i < bookGoals b → k < bookGoals b →
       ((j : ℕ) → j < k → waitAt b x (goalAfter (bookGoals b) i j) ≡ 0) →

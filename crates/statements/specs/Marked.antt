@@ -1,14 +1,14 @@
--- The marked examples M1 to M11 of document 01 as one table, with M10 as request (v) has it, and one each for requests
--- (i) and (iv) to (vii). Plants and books are written as their two-byte numbers, and so are lists of masks.
+-- The marked examples M1 to M11 of document 01 as one table, with M10 as request (v) has it, one of rows, and one each
+-- for requests (i) and (iv) to (vii). Plants and books are written as their two-byte numbers, and so are lists of masks.
 use mathlib.Core.Path.{_≡_}
 use mathlib.Core.List.{List, [], _∷_, _++_}
 use Prim.Native.Nat.{ℕ, _-_}
 use Rattle.statements.specs.Plants.{plantOf}
 use Rattle.statements.specs.Books.{bytesOf, bookCount, waitAt, moveAt, arrive, goodMoves, withdrawnBook}
 use Rattle.statements.specs.Books.{droppedStates}
-use Rattle.statements.specs.Calls.{withdrawListFault, returnFault, previewFault, consultFault, movesFault, Ask}
-use Rattle.statements.specs.Calls.{Call, makes, withdraws, withdrawsList, returns, effectOf, standing, answers}
-use Rattle.statements.specs.Calls.{inService}
+use Rattle.statements.specs.Calls.{withdrawListFault, returnFault, previewFault, consultFault, movesFault, rowPart}
+use Rattle.statements.specs.Calls.{Ask, Call, makes, withdraws, withdrawsList, returns, effectOf, standing}
+use Rattle.statements.specs.Calls.{answers, inService}
 
 -- strip plant P: header, labels 3 1 5 0, then the eight arrows
 unfoldable pub plantP : List ℕ
@@ -62,6 +62,16 @@ bookFour = bookP 4 7 (0 ∷ 0 ∷ 2 ∷ 0 ∷ 1 ∷ 2 ∷ 1 ∷ 0 ∷ 1 ∷ 0 �
 -- one kept state, three moves and three goals with these waits; the move of goal i is i
 unfoldable pub bookThree : ℕ → ℕ → ℕ → List ℕ
 bookThree v w z = bytesOf (1 ∷ 3 ∷ 3 ∷ 1 ∷ 7 ∷ 0 ∷ 16 ∷ 28 ∷ v ∷ 0 ∷ w ∷ 1 ∷ z ∷ 2 ∷ [])
+
+-- the same with five and with eight
+unfoldable pub bookFive : ℕ → ℕ → ℕ → ℕ → ℕ → List ℕ
+bookFive a b c d e =
+    bytesOf (1 ∷ 5 ∷ 5 ∷ 1 ∷ 31 ∷ 0 ∷ 16 ∷ 36 ∷ a ∷ 0 ∷ b ∷ 1 ∷ c ∷ 2 ∷ d ∷ 3 ∷ e ∷ 4 ∷ [])
+
+unfoldable pub bookEight : ℕ → ℕ → ℕ → ℕ → ℕ → ℕ → ℕ → ℕ → List ℕ
+bookEight a b c d e f g h =
+    bytesOf
+    (1 ∷ 8 ∷ 8 ∷ 1 ∷ 255 ∷ 0 ∷ 16 ∷ 48 ∷ a ∷ 0 ∷ b ∷ 1 ∷ c ∷ 2 ∷ d ∷ 3 ∷ e ∷ 4 ∷ f ∷ 5 ∷ g ∷ 6 ∷ h ∷ 7 ∷ [])
 
 unfoldable pub allLost : ℕ → List ℕ
 allLost mask = bookP 0 mask (lostRow ++ (lostRow ++ (lostRow ++ lostRow)))
@@ -120,8 +130,28 @@ pub record Marked-arrivals : Type 0 where
   -- all are served: the sought one stays
   pub all : Consults (bookThree 0 0 0) 0 1 1 0 1
   pub last : Consults (bookThree 0 0 0) 0 2 2 0 2
+  -- of five and of eight goals: on to the last, from the last to the first and on, and all served
+  pub five : Consults (bookFive 5 0 0 0 7) 0 1 4 7 4
+  pub five-round : Consults (bookFive 0 0 6 5 0) 0 4 2 6 2
+  pub five-all : Consults (bookFive 0 0 0 0 0) 0 4 4 0 4
+  pub eight : Consults (bookEight 5 0 0 0 0 0 0 7) 0 1 7 7 7
+  pub eight-round : Consults (bookEight 0 0 0 4 3 0 0 0) 0 6 3 4 3
+  pub eight-all : Consults (bookEight 0 0 0 0 0 0 0 0) 0 7 7 0 7
   -- refused: the goal sought is past the last
   pub no-goal : consultFault (bookThree 0 0 0) 0 3 ≡ 8
+
+-- rows are handed back as bytes
+pub record Marked-rows : Type 0 where
+  -- in M1's book: 0/0 and 2/0 for state 0, and 1/2 and 1/0 for state 1
+  pub first-state : rowPart bookM1 0 ≡ 0 ∷ 0 ∷ 0 ∷ 0 ∷ 2 ∷ 0 ∷ 0 ∷ 0 ∷ []
+  pub second-state : rowPart bookM1 1 ≡ 1 ∷ 0 ∷ 2 ∷ 0 ∷ 1 ∷ 0 ∷ 0 ∷ 0 ∷ []
+  -- a lost state's row
+  pub lost : rowPart bookM1 3 ≡ 255 ∷ 255 ∷ 255 ∷ 255 ∷ 255 ∷ 255 ∷ 255 ∷ 255 ∷ []
+  -- the low byte comes first: a wait of 258
+  pub low-first : rowPart (bookThree 258 5 6) 0 ≡ 2 ∷ 1 ∷ 0 ∷ 0 ∷ 5 ∷ 0 ∷ 1 ∷ 0 ∷ 6 ∷ 0 ∷ 2 ∷ 0 ∷ []
+  -- refused, and so empty: a state past the last, and a wait of 1,024
+  pub no-state : rowPart bookM1 4 ≡ []
+  pub no-book : rowPart (bookThree 1024 5 6) 0 ≡ []
 
 -- the call for all good moves on P, a book, a state and a goal is accepted and gives this mask, that of the goal
 -- arrived at

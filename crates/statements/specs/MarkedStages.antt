@@ -196,6 +196,8 @@ pub record Answered-stages : Type 0 where
   pub moves-lost : movesFault plantTwo bookTwoLost 0 0 ≡ 0
   pub moves-high : movesFault plantTwo bookTwoHigh 1 0 ≡ 0
   pub row : rowPart bookTwo 0 ≡ rowBytes bookTwo 0
+  pub lost-row : rowPart bookTwoLost 1 ≡ bytesOf (65535 ∷ 65535 ∷ 65535 ∷ 65535 ∷ 65535 ∷ [])
+  pub no-row : rowPart bookTwo 3 ≡ []
   -- plants: the last header number 2; bit 9; bits 8 and 10
   pub last-two : plantFault (plantOne 2 3) ≡ 1
   pub free : plantFault (plantOne 1 515) ≡ 0

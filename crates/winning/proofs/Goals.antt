@@ -1,15 +1,16 @@
 -- The goal arrived at: it is the first that is not served, from the sought one on in turn, or the sought one if all are
 -- served; to arrive again changes nothing; and passing a goal comes nearer to every other that is not served.
 -- Assumes nothing.
-use mathlib.Core.Path.{_≡_, ap}
+use mathlib.Core.Path.{_≡_, ap, _∙_}
 use mathlib.Core.Logic.{_⊎_, inl, inr}
 use mathlib.Core.Bool.{Bool, true, not}
 use mathlib.Core.List.{List}
-use Prim.Native.Nat.{ℕ, _+_, _-_, _≤_, _<_}
+use Prim.Native.Nat.{ℕ, suc, _+_, _-_, _%_, _≤_, _<_}
+use native.Mathlib.Nat.{add-suc, mod-lt, mod-eq-of-lt, mod-self, suc-mod, mod-eq-sub-mod}
 use native.Mathlib.Omega.{arith}
 use native.Mathlib.Decide.{decLt}
 use lib.Dec.{leb}
-use borrow.Author.Tests.{eqb-true, eqb-false, ne-eqb, lt-ltb, le-ltb, le-leb, lt-leb, not-true, not-false}
+use borrow.Author.Tests.{eqb-true, eqb-false, ne-eqb, le-leb, lt-leb, not-true, not-false}
 use Rattle.statements.specs.Sets.{pick}
 use Rattle.statements.specs.Books.{bookGoals, waitAt, goalAfter, served, passes, arrive}
 use Rattle.statements.specs.Demands.{Arriving}
@@ -17,22 +18,34 @@ use Rattle.sets.proofs.First.{first-range, first-holds, first-least, first-befo
 
 -- goals in turn
 module _ (n i k : ℕ) where
-  -- k places after goal i without going round, and going round
+  -- k places after goal i without going round, and going round once
   pub after-on : i + k < n → goalAfter n i k ≡ i + k
   unfolding goalAfter
-  after-on h = rw (lt-ltb (i + k) n h)
+  after-on h = mod-eq-of-lt h
 
-  pub after-round : n ≤ i + k → goalAfter n i k ≡ i + k - n
+  pub after-round : n ≤ i + k → i + k < n + n → goalAfter n i k ≡ i + k - n
   unfolding goalAfter
-  after-round h = rw (le-ltb (i + k) n h)
+  after-round h l = mod-eq-sub-mod h ∙ mod-eq-of-lt (omega arith)
 
   -- it is a goal
-  pub after-below : i < n → k ≤ n → goalAfter n i k < n
-  after-below hi hk =
-      elim (decLt (i + k) n) [
-        | yes l ↦ rw (after-on l) l
-        | no l ↦ rw (after-round (omega arith)) (omega arith)
-      ]
+  pub after-below : i < n → goalAfter n i k < n
+  unfolding goalAfter
+  after-below h = mod-lt (i + k) (omega arith)
+
+  -- a place further on is the goal after it, and after the last the first
+  after-suc : goalAfter n i (suc k) ≡ suc (goalAfter n i k) % n
+  unfolding goalAfter
+  after-suc = ap (λ (m : ℕ). m % n) (add-suc i k) ∙ suc-mod (i + k) n
+
+  after-next : suc (goalAfter n i k) < n → goalAfter n i (suc k) ≡ suc (goalAfter n i k)
+  after-next h = after-suc ∙ mod-eq-of-lt h
+
+  after-last : suc (goalAfter n i k) ≡ n → goalAfter n i (suc k) ≡ 0
+  after-last e = after-suc ∙ ap (λ (m : ℕ). m % n) e ∙ mod-self n
+
+-- no place on it is the goal itself
+after-none : (n i : ℕ) → i < n → goalAfter n i 0 ≡ i
+after-none n i h = omega (arith, after-on n i 0 (omega arith))
 
 -- how many places goal i comes after goal s
 pub ahead : ℕ → ℕ → ℕ → ℕ
@@ -58,7 +71,7 @@ ahead-below n s i hs hi =
 after-ahead : (n s i : ℕ) → s < n → i < n → goalAfter n s (ahead n s i) ≡ i
 after-ahead n s i hs hi =
     elim (decLt i s) [
-      | yes l ↦ rw (ahead-round n s i l) (omega (arith, after-round n s (i + n - s) (omega arith)))
+      | yes l ↦ rw (ahead-round n s i l) (omega (arith, after-round n s (i + n - s) (omega arith) (omega arith)))
       | no l ↦ rw (ahead-on n s i (omega arith)) (omega (arith, after-on n s (i - s) (omega arith)))
     ]
 
@@ -72,7 +85,7 @@ ahead-after n s i k hs hi hk =
           elim (decLt (s + k) n) [
             | yes m ↦ rw (after-on n s k m) (omega (arith, ahead-round n (s + k) i (omega arith)))
             | no m ↦
-                rw (after-round n s k (omega arith)) (omega (arith, ahead-on n (s + k - n) i (omega arith)))
+                rw (after-round n s k (omega arith) (omega arith)) (omega (arith, ahead-on n (s + k - n) i (omega arith)))
           ]
       | no l ↦
           let near = ahead-on n s i (omega arith) in
@@ -91,7 +104,7 @@ module _ (b : List ℕ) (x i : ℕ) where
   stops-above k h = rw (ne-eqb (waitAt b x (goalAfter (bookGoals b) i k)) 0 (λ e. omega arith))
 
   -- at most all goals are passed
-  pub passes-range : passes b x i ≤ bookGoals b
+  passes-range : passes b x i ≤ bookGoals b
   unfolding passes
   passes-range = omega (arith, first-range (bookGoals b) 0 Stops)
 
@@ -118,23 +131,22 @@ module _ (b : List ℕ) (x i : ℕ) where
     -- the goal arrived at is a goal
     pub arrive-below : arrive b x i < bookGoals b
     unfolding arrive
-    arrive-below = after-below (bookGoals b) i (passes b x i) hi passes-range
+    arrive-below = after-below (bookGoals b) i (passes b x i) hi
 
     -- no goal is passed: the sought one stays
     arrive-none : passes b x i ≡ 0 → arrive b x i ≡ i
     unfolding arrive
-    arrive-none e = rw e (omega (arith, after-on (bookGoals b) i 0 (omega arith)))
+    arrive-none e = rw e (after-none (bookGoals b) i hi)
 
     -- all are: it stays
     arrive-all : passes b x i ≡ bookGoals b → arrive b x i ≡ i
     unfolding arrive
-    arrive-all e = rw e (omega (arith, after-round (bookGoals b) i (bookGoals b) (omega arith)))
+    arrive-all e = rw e (omega (arith, after-round (bookGoals b) i (bookGoals b) (omega arith) (omega arith)))
 
     -- a sought goal that is not served stays
     pub arrive-unserved : 0 < waitAt b x i → arrive b x i ≡ i
     arrive-unserved w =
-        let here : goalAfter (bookGoals b) i 0 ≡ i = omega (arith, after-on (bookGoals b) i 0 (omega arith)) in
-        arrive-none (omega (arith, passes-least 0 (omega arith) (rw here w)))
+        arrive-none (omega (arith, passes-least 0 (omega arith) (rw (after-none (bookGoals b) i hi) w)))
 
     -- the first goal that is not served is the one arrived at
     arrive-until :
@@ -206,6 +218,9 @@ arrive-again b x i hi =
 pub arriving : Arriving
 arriving =
     record {
+      itself = after-none;
+      next = after-next;
+      after-last = after-last;
       until = λ b x i k hi. arrive-until b x i hi k;
       stays = arrive-stays;
       goal = arrive-below;

@@ -13,7 +13,7 @@ use Rattle.statements.specs.Plants.{Plant, inGoal, settled}
 use Rattle.statements.specs.Books.{bookGoals, waitAt, stageAt, goalAfter, passes, arrive}
 use Rattle.statements.specs.Strategies.{InGoal, Settles, unsettled, Leaves}
 use Rattle.sets.proofs.Tests.{decided, not-both}
-use Rattle.winning.proofs.Goals.{after-below, ahead, passes-range, passes-served, arrive-below}
+use Rattle.winning.proofs.Goals.{after-below, ahead, passes-served, arrive-below}
 use Rattle.winning.proofs.Goals.{arrive-unserved, arrive-again, nears}
 
 -- a moment, within as many as a number is at moment n, at which the number is 0 and something else still holds
@@ -131,8 +131,7 @@ module _ {p : Plant} {b : List ℕ} {states goals : ℕ → ℕ} (s : Seeks p b 
       (n k : ℕ) → k < passes b (states n) (goals n) →
       InGoal p (goalAfter (p .goals) (goals n) k) (states n) ⊎ Leaves b states n n
   seeks-passed n k h =
-      let few = passes-range b (states n) (goals n) in
-      let below = after-below (bookGoals b) (goals n) k (seeks-below n) (omega arith) in
+      let below = after-below (bookGoals b) (goals n) k (seeks-below n) in
       ⊎-elim
       (λ g. inl (ap (λ (m : ℕ). inGoal p (goalAfter m (goals n) k) (states n)) (sym (s .as-many)) ∙ g))
       (λ g. inr g)

@@ -9,7 +9,9 @@ use lib.Dec.{eqb}
 use lib.ListN.{length}
 use denote.Ref.{now}
 use Rattle.statements.specs.Calls.{consultFault}
-use Rattle.consult.proofs.Consulted.{no-row, no-start, empty-row, start-given, row-fits, row-is, full-row}
+use Rattle.promises.proofs.Rows.{no-row, no-start, empty-row, start-given, row-fits, full-row}
+use Rattle.promises.proofs.Demands.{of-row}
+use Rattle.consult.proofs.Consulted.{row-is}
 use Rattle.consult.proofs.state_row.Statement.{statement}
 use Rattle.consult.proofs.state_row.Tie as tie
 
@@ -25,14 +27,13 @@ returns c =
     let refused : consultFault (now (a .book)) (a .state) 0 ≡ 0 → ⊥ =
     λ z. c .before .if1 .taken (c .before .before .consult .ensures ∙ z)
     in (
-      sym (no-row (now (a .book)) (a .state) refused),
-      (
-        refl,
-        (
-          omega (arith, no-start (now (a .book)) (a .state) refused),
-          sym (empty-row (now (a .book)) (a .state) refused),
-        ),
-      ),
+      record {
+        bytes = sym (no-row (now (a .book)) (a .state) refused);
+        block = refl;
+        place = omega (arith, no-start (now (a .book)) (a .state) refused);
+        empty = sym (empty-row (now (a .book)) (a .state) refused);
+      },
+      of-row,
     )
 
 row-place-requires : tie.Need-row-place-requires
@@ -70,15 +71,14 @@ returns-2 : tie.Need-returns-2
 returns-2 c =
     let a = c .before .before .before .before .before .before .args in
     let place = c .before .before .row-place .ensures in
-    let part = row-is (now (a .book)) (a .state) (given (c .before)) _ _ place (c .before .row-long .ensures) in (
-      part,
-      (
-        refl,
-        (
-          omega (arith, place, start-given (now (a .book)) (a .state) (given (c .before))),
-          ap (λ (l : List ℕ). eqb (length l) 0) part ∙ full-row (now (a .book)) (a .state) (given (c .before)),
-        ),
-      ),
+    let part = row-is (now (a .book)) (a .state) _ _ (given (c .before)) place (c .before .row-long .ensures) in (
+      record {
+        bytes = part;
+        block = refl;
+        place = omega (arith, place, start-given (now (a .book)) (a .state) (given (c .before)));
+        empty = ap (λ (l : List ℕ). eqb (length l) 0) part ∙ full-row (now (a .book)) (a .state) (given (c .before));
+      },
+      of-row,
     )
 
 pub state-row-spec : {M : Type 1} → statement M
