@@ -2,10 +2,13 @@
 // a read or a write fails it says so in a line on standard error; after a failed read it prints nothing else.
 mod input;
 
+use input::Input;
 use libc::STDERR_FILENO;
 use libc::STDOUT_FILENO;
 ghost use mathlib.Core.Path.{_≡_};
+ghost use Prim.Native.Nat.{_≤_};
 ghost use lib.ListN.{length};
+ghost use Rattle.planbook.specs.Printed.{Printed};
 
 // Room for the input: the longest plant has 51,216 bytes and 16 masks have 64. With one byte more the masks are bad, so
 // that no byte past it can change the answer.
@@ -22,28 +25,37 @@ fn output_buffer() -> [u8; 200000]
     [0; 200000]
 }
 
-// Answers an input that was read to its end.
-fn answer(input: &[u8]) {
-    let mut out = output_buffer();
-    let long = reply::reply(input, &mut out) as usize;
-    if !io::write_all(STDOUT_FILENO, &out[..long]) {
-        io::write_all(
-            STDERR_FILENO,
-            b"planbook: standard output could not be written\n",
-        );
+// The text to print, as the first bytes of `out`: the answer to an input that was read to its end, or as far as the
+// buffer goes; nothing after a failed read.
+fn answer<'a>(buffer: &[u8], read: Input, out: &'a mut [u8]) -> &'a mut [u8]
+    requires input { ⌜ 51281 ≤ length (now buffer) ⌝ }
+    requires count { ⌜ read .count ≤ length (now buffer) ⌝ }
+    requires output { ⌜ 200000 ≤ length (now out) ⌝ }
+    ensures { λ r. ⌜ Printed (now (buffer .entry)) (read .count) (read .failed) (now r) ⌝ }
+{
+    if read.failed {
+        return &mut out[..0];
     }
+    let count = read.count;
+    let long = reply::reply(&buffer[..count], out) as usize;
+    &mut out[..long]
 }
 
 fn main() {
     let mut input = input_buffer();
+    let mut out = output_buffer();
     let read = input::read_all(&mut input);
-    let count = read.count;
     if read.failed {
         io::write_all(
             STDERR_FILENO,
             b"planbook: standard input could not be read\n",
         );
-    } else {
-        answer(&input[..count]);
+    }
+    let text = answer(&input, read, &mut out);
+    if !io::write_all(STDOUT_FILENO, text) {
+        io::write_all(
+            STDERR_FILENO,
+            b"planbook: standard output could not be written\n",
+        );
     }
 }

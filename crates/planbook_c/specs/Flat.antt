@@ -3,7 +3,7 @@ use mathlib.Core.Path.{_≡_}
 use mathlib.Core.Bool.{_&&_}
 use mathlib.Core.List.{List}
 use Prim.Native.Nat.{ℕ}
-use lib.ListN.{length}
+use lib.ListN.{length, take, drop}
 use Rattle.statements.specs.Sets.{pick}
 use Rattle.statements.specs.Books.{isLost, waitAt, moveAt, arrive}
 use Rattle.statements.specs.Calls.{consultFault, rowPart}
@@ -38,9 +38,10 @@ pub record AdviceSays (b : List ℕ) (x i : ℕ) (r : Advice) : Type 0 where
   pub wait : r .wait ≡ pick (keeps b x i) (waitAt b x (arrive b x i)) 0
   pub seek : r .seek ≡ pick (keeps b x i) (arrive b x i) 0
 
--- the row of a state x in a book b: a refusal's number or 0, where in the book it starts and how long it is; 0 and 0
--- when refused
+-- the row of a state x in a book b: a refusal's number or 0, where in the book it starts and how long it is, and that
+-- this part of the book is the row; 0 and 0 when refused
 pub record PartSays (b : List ℕ) (x : ℕ) (r : Part) : Type 0 where
   pub number : r .number ≡ consultFault b x 0
   pub start : r .start ≡ rowStart b x
   pub long : r .length ≡ length (rowPart b x)
+  pub bytes : take (r .length) (drop (r .start) b) ≡ rowPart b x

@@ -174,19 +174,17 @@ pub extern "C" fn planbook_moves(plant: &[u8], book: &[u8], state: u32, goal: u3
 pub extern "C" fn planbook_row(book: &[u8], state: u32) -> Part
     ensures { λ r. ⌜ PartSays (now (book .entry)) state r ⌝ }
 {
-    let number = consult::consult_book(book, state, 0).number;
-    if number != 0 {
+    let row = consult::state_row(book, state);
+    if row.len() == 0 {
         return Part {
-            number: number as u32,
+            number: consult::consult_book(book, state, 0).number as u32,
             start: 0,
             length: 0,
         };
     }
-    let start = rows::row_place(book, state);
-    let length = rows::row_long(book);
     Part {
         number: 0,
-        start: start as u32,
-        length: length as u32,
+        start: rows::row_place(book, state) as u32,
+        length: row.len() as u32,
     }
 }

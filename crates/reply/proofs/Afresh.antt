@@ -11,6 +11,7 @@ use Rattle.demands.proofs.Afresh.{in-turn-afresh}
 use Rattle.listing.specs.Text.{listing}
 use Rattle.reply.specs.Reply.{plantPart, maskPart, masksOk, lists, otherMasks, inTurn, outcomeText, replyTo}
 use Rattle.reply.specs.Reply.{servedBy}
+use Rattle.reply.specs.Laws.{ListsAfresh}
 use Rattle.reply.proofs.Parts.{masks-good}
 
 -- the masks in turn, all of them good
@@ -21,10 +22,7 @@ module _ (p : Plant) (ok : PlantOk p) (m : List ℕ) (first : maskOk (p .moves) 
   turned-afresh = rw (first, others) (ap lists (in-turn-afresh p ok (maskAt m 0) first (otherMasks m)))
 
 -- so the answer for good masks is the listing of that book
-pub reply-afresh : (input : List ℕ) → plantFault (plantPart input) ≡ 0 → masksOk (maskPart input) ≡ true
-    → let u = plantOf (plantPart input) .moves in
-    maskOk u (maskAt (maskPart input) 0) ≡ true → eachOk u (otherMasks (maskPart input)) ≡ true
-    → replyTo input ≡ listing (madeBook (plantOf (plantPart input)) (servedBy (maskPart input)))
+pub reply-afresh : ListsAfresh
 unfolding outcomeText
 reply-afresh input accepted good first others =
     masks-good input accepted good

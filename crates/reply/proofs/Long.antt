@@ -15,6 +15,7 @@ use Rattle.sets.proofs.Tests.{decided, same-number}
 use Rattle.sets.proofs.Tests.{and-iff}
 use Rattle.decoding.proofs.Faults.{plant-tests}
 use Rattle.reply.specs.Reply.{plantPart, maskPart, masksOk, replyTo}
+use Rattle.reply.specs.Laws.{FirstDecide}
 use Rattle.reply.proofs.Parts.{plant-refused, masks-bad}
 
 -- a header that is good says at most 51,216 bytes
@@ -98,7 +99,7 @@ module _ (n : ℕ) (input : List ℕ) (most : 51281 ≤ n) (longer : n < length 
         sym (plant-refused input (one input refl) (λ z. omega arith))
 
 -- the answer for the first bytes is the answer
-pub reply-first : (n : ℕ) (input : List ℕ) → 51281 ≤ n → replyTo (take n input) ≡ replyTo input
+pub reply-first : FirstDecide
 reply-first n input most =
     elim (decLe (length input) n) [
       | yes short ↦ ap replyTo (take-all n input short)

@@ -6,21 +6,23 @@ use mathlib.Core.List.{List}
 use Prim.Native.Nat.{ℕ, zero, suc, _≤_}
 use native.Mathlib.Omega.{arith}
 use lib.Dec.{eqb}
-use lib.ListN.{length}
-use borrow.Author.Tests.{leb-true, eqb-true}
+use lib.ListN.{length, take}
+use borrow.Author.Tests.{leb-true, eqb-true, le-leb}
 use Rattle.statements.specs.Plants.{Plant, plantOf, headOk, labelsOk, arrowsOk, firstOf, when, plantFault}
 use Rattle.statements.specs.Books.{maskAt, maskOk, eachOk, lessMask, madeBook, unionOf}
 use Rattle.sets.proofs.Tests.{decided, and-left}
+use Rattle.sets.proofs.Over.{over-back}
 use Rattle.decoding.proofs.Masks.{less-ok}
 use Rattle.decoding.proofs.Faults.{PlantOk, plant-ok}
 use Rattle.demands.proofs.Plants.{given-allowed}
 use Rattle.demands.proofs.Books.{is-book}
 use Rattle.demands.proofs.Afresh.{made-accepted, in-turn-afresh}
 use Rattle.listing.specs.Text.{newline, listing, refusedText, badMasksText}
-use Rattle.listing.specs.Buffers.{hasRoom, placedLong}
+use Rattle.listing.specs.Buffers.{hasRoom, placed, placedLong}
 use Rattle.listing.proofs.Digits.{figure-few}
 use Rattle.listing.proofs.Texts.{text-most, listed}
 use Rattle.reply.specs.Reply.{plantPart, maskPart, masksOk, otherMasks, inTurn, outcomeText, masksText, replyTo}
+use Rattle.reply.specs.Laws.{FewBytes}
 
 -- what is written of a text lies within the buffer
 pub placed-within : (text o : List ℕ) {r : ℕ} → r ≡ placedLong text o → r ≤ length o
@@ -30,6 +32,14 @@ placed-within text o {r} e =
       | inl h ↦ let long = rw h at e in omega (arith, leb-true (length text) (length o) h)
       | inr h ↦ let none = rw h at e in omega arith
     ]
+
+-- where there is room all of it is written, and what is written is the text
+pub placed-all : (text o : List ℕ) {r : ℕ} {o′ : List ℕ} → length text ≤ length o → r ≡ placedLong text o
+    → o′ ≡ placed text o → take r o′ ≡ text
+unfolding placedLong placed hasRoom
+placed-all text o {r} {o′} room long bytes =
+    let fits = le-leb (length text) (length o) room in
+    rw (rw fits at bytes) (over-back text o r (rw fits at long))
 
 -- a refusal of at most k, if there is one
 when-most : (t : Bool) (n k : ℕ) → n ≤ k → when t n ≤ k
@@ -92,7 +102,7 @@ module _ (p : Plant) (ok : PlantOk p) where
         ]
 
 -- the longest answer
-pub reply-most : (input : List ℕ) → length (replyTo input) ≤ 200000
+pub reply-most : FewBytes
 unfolding replyTo
 reply-most input =
     let s = plantPart input in

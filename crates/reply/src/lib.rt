@@ -15,6 +15,7 @@ ghost use lib.ListN.{length};
 ghost use Rattle.statements.specs.Plants.{plantOf, plantFault};
 ghost use Rattle.listing.specs.Buffers.{placed, placedLong};
 ghost use Rattle.reply.specs.Reply.{masksOk, inTurn, replyTo};
+ghost use Rattle.reply.specs.Laws.{FirstDecide, FewBytes, ListsAfresh};
 ghost use Rattle.reply.specs.Steps.{Parted, Ready, cameTo, Told};
 
 // The bytes of 1 to 16 masks, none of them cut.
@@ -86,6 +87,9 @@ fn plant_end(input: &[u8]) -> usize
 pub fn reply(input: &[u8], out: &mut [u8]) -> u32
     ensures long { λ r. ⌜ r ≡ placedLong (replyTo (now (input .entry))) (now (out .entry)) ⌝ }
     ensures bytes { λ _. ⌜ now (out .exit) ≡ placed (replyTo (now (input .entry))) (now (out .entry)) ⌝ }
+    ensures first { λ _. ⌜ FirstDecide ⌝ }
+    ensures most { λ _. ⌜ FewBytes ⌝ }
+    ensures afresh { λ _. ⌜ ListsAfresh ⌝ }
 {
     let end = plant_end(input);
     let plant = &input[..end];

@@ -1,19 +1,30 @@
--- `planbook::answer` meets its contract: the part of the buffer that is printed lies within it. Assumes nothing.
-use mathlib.Core.Path.{sym}
+-- `planbook::answer` meets its contract: both buffers are long enough for any input and any answer, as the clauses of
+-- `reply` say. Assumes nothing.
+use mathlib.Core.Path.{_≡_, refl, sym, ap, _∙_}
+use mathlib.Core.Bool.{true≢false}
 use Prim.Native.Nat.{_≤_}
 use native.Mathlib.Omega.{arith}
-use lib.ListN.{length}
+use denote.Ref.{now}
+use lib.ListN.{length, take}
 use lib.Seq.{length-take-le}
 use borrow.Author.Needs.{needs}
-use Rattle.reply.proofs.Room.{placed-within}
+use Rattle.reply.specs.Reply.{replyTo}
+use Rattle.reply.proofs.Room.{placed-within, placed-all}
 use Rattle.planbook.proofs.answer.Statement.{statement}
 use Rattle.planbook.proofs.answer.Tie as tie
 
-output-buffer-requires : tie.Need-output-buffer-requires
-output-buffer-requires c κs = search needs
+slice-aggregate-result : tie.Need-slice-aggregate-result
+slice-aggregate-result c = search needs
+
+returns : tie.Need-returns
+returns c =
+    record {
+      answer = λ read whole same. absurd (true≢false (sym (c .before .if1 .taken) ∙ read));
+      nothing = λ failed. refl;
+    }
 
 slice-aggregate-reply : tie.Need-slice-aggregate-reply
-slice-aggregate-reply c = search needs
+slice-aggregate-reply c = sym (length-take-le _ _ (c .before .before .before .before .pre .1 .0))
 
 reply-requires : tie.Need-reply-requires
 reply-requires c κs = search needs
@@ -21,43 +32,40 @@ reply-requires c κs = search needs
 cast-long : tie.Need-cast-long
 cast-long c = search needs
 
--- the answer lies within the buffer
-within : (c : tie.After-reply) → c .reply .result ≤ length (c .reply .last .1 .0)
-within c = omega (arith, placed-within _ _ (c .reply .ensures .0), c .reply .kept .1 .0)
+-- what is written is the answer to the bytes that were read
+answered : (c : tie.After-reply)
+    → let a = c .before .before .before .before .before .before .args in
+    take (c .reply .result) (c .reply .last .1 .0) ≡ replyTo (take (a .read .count) (now (a .buffer)))
+answered c =
+    let s = c .before .before .before .before .before .before in
+    let says = c .reply .ensures in
+    placed-all _ _ (omega (arith, says .1 .1 .1 .0 (take (s .args .read .count) (now (s .args .buffer))), s .pre .1 .1))
+    (says .0) (says .1 .0)
 
-array-share-prefix-out : tie.Need-array-share-prefix-out
-array-share-prefix-out c = within (c .before)
-
-slice-aggregate-write-all : tie.Need-slice-aggregate-write-all
-slice-aggregate-write-all c = sym (length-take-le _ _ (within (c .before .before)))
-
-write-all-requires : tie.Need-write-all-requires
-write-all-requires c κs = search needs
-
-slice-aggregate-write-all-2 : tie.Need-slice-aggregate-write-all-2
-slice-aggregate-write-all-2 c = search needs
-
-write-all-requires-2 : tie.Need-write-all-requires-2
-write-all-requires-2 c κs = search needs
-
-returns : tie.Need-returns
-returns c = search needs
+slice-aggregate-result-2 : tie.Need-slice-aggregate-result-2
+slice-aggregate-result-2 c =
+    let k = c .before .before .before in
+    sym (length-take-le _ _ (omega (arith, placed-within _ _ (k .reply .ensures .0), k .reply .kept .1 .0)))
 
 returns-2 : tie.Need-returns-2
-returns-2 c = search needs
+returns-2 c =
+    let k = c .before .before .before in
+    let s = k .before .before .before .before .before .before in
+    record {
+      answer =
+      λ read whole same.
+      answered k ∙ ap replyTo same ∙ k .reply .ensures .1 .1 .0 (length (now (s .args .buffer))) whole (s .pre .0);
+      nothing = λ failed. absurd (true≢false (sym failed ∙ k .before .before .before .if1 .left));
+    }
 
 pub answer-spec : {M : Type 1} → statement M
 answer-spec =
     tie.close
     (tie.spec
-    output-buffer-requires
+    slice-aggregate-result
+    returns
     slice-aggregate-reply
     reply-requires
     cast-long
-    array-share-prefix-out
-    slice-aggregate-write-all
-    write-all-requires
-    slice-aggregate-write-all-2
-    write-all-requires-2
-    returns
+    slice-aggregate-result-2
     returns-2)

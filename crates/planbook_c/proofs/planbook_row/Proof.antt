@@ -1,66 +1,73 @@
--- `planbook_c::planbook_row` meets its contract: the row of an accepted state stands within the book.
--- Assumes nothing.
-use mathlib.Core.Path.{_≡_, sym, _∙_}
+-- `planbook_c::planbook_row` meets its contract: the row that is handed back tells whether the call is accepted, and the
+-- row of an accepted state stands within the book. Assumes nothing.
+use mathlib.Core.Path.{_≡_}
 use Prim.Native.Nat.{_<_}
 use native.Mathlib.Omega.{arith}
 use denote.Ref.{now}
+use lib.ListN.{length}
 use Rattle.statements.specs.Calls.{consultFault}
-use Rattle.planbook_c.proofs.Parts.{part-refused, part-given, part-fits}
+use Rattle.planbook_c.proofs.Parts.{row-none, row-some, part-refused, part-given, part-fits}
 use borrow.Author.Needs.{needs}
 use Rattle.planbook_c.proofs.planbook_row.Statement.{statement}
 use Rattle.planbook_c.proofs.planbook_row.Tie as tie
 
+state-row-requires : tie.Need-state-row-requires
+state-row-requires c κs = search needs
+
 consult-book-requires : tie.Need-consult-book-requires
 consult-book-requires c κs = search needs
 
-cast-t8 : tie.Need-cast-t8
-cast-t8 c = search needs
+cast-t7 : tie.Need-cast-t7
+cast-t7 c = search needs
 
 returns : tie.Need-returns
 returns c =
-    let a = c .before .before .before .args in
-    part-refused (now (a .book)) (a .state) (c .before .consult-book .result .number)
-    (c .before .consult-book .ensures .0 .number) (c .if1 .taken)
+    let t = c .before .before in
+    let a = t .before .before .before .args in
+    let row = t .before .state-row in
+    part-refused (now (a .book)) (a .state) _ (c .before .consult-book .ensures .0 .number)
+    (row-none (now (a .book)) (a .state) (now (row .result)) (row .ensures .0 .empty) (t .if1 .taken))
 
 row-place-requires : tie.Need-row-place-requires
 row-place-requires c κs = search needs
 
-row-long-requires : tie.Need-row-long-requires
-row-long-requires c κs = search needs
-
 -- past the refusal the call is accepted
-given : (c : tie.After-row-long) →
-    let a = c .before .before .before .before .before .args in
+given : (c : tie.After-row-place)
+    → let a = c .before .before .before .before .args in
     consultFault (now (a .book)) (a .state) 0 ≡ 0
-given c = sym (c .before .before .before .consult-book .ensures .0 .number) ∙ c .before .before .if1 .left
+given c =
+    let a = c .before .before .before .before .args in
+    let row = c .before .before .state-row in
+    row-some (now (a .book)) (a .state) (now (row .result)) (row .ensures .0 .empty) (c .before .if1 .left)
 
-fits : (c : tie.After-row-long) → (c .before .row-place .result < 65536) × (c .row-long .result < 65536)
+fits : (c : tie.After-row-place)
+    → (c .row-place .result < 65536) × (length (now (c .before .before .state-row .result)) < 65536)
 fits c =
-    let a = c .before .before .before .before .before .args in
-    part-fits (now (a .book)) (a .state) (c .before .row-place .result) (c .row-long .result) (given c)
-    (c .before .row-place .ensures) (c .row-long .ensures)
+    let a = c .before .before .before .before .args in
+    let row = c .before .before .state-row in
+    part-fits (now (a .book)) (a .state) _ (now (row .result)) (given c) (c .row-place .ensures) (row .ensures .0 .bytes)
 
-cast-t9 : tie.Need-cast-t9
-cast-t9 c = omega (arith, fits c .0)
+cast-t8 : tie.Need-cast-t8
+cast-t8 c = omega (arith, fits c .0)
 
 cast-t10 : tie.Need-cast-t10
 cast-t10 c = omega (arith, fits c .1)
 
 returns-2 : tie.Need-returns-2
 returns-2 c =
-    let a = c .before .before .before .before .before .args in
-    part-given (now (a .book)) (a .state) (c .before .row-place .result) (c .row-long .result) (given c)
-    (c .before .row-place .ensures) (c .row-long .ensures)
+    let a = c .before .before .before .before .args in
+    let row = c .before .before .state-row in
+    part-given (now (a .book)) (a .state) _ (now (row .result)) (given c) (c .row-place .ensures) (row .ensures .0 .bytes)
 
 pub planbook-row-spec : {M : Type 1} → statement M
 planbook-row-spec =
     tie.close
     (tie.spec
+    state-row-requires
     consult-book-requires
-    cast-t8
+    cast-t7
     returns
     row-place-requires
-    row-long-requires
-    cast-t9
+    cast-t8
     cast-t10
     returns-2)

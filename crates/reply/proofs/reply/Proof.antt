@@ -1,12 +1,27 @@
 -- `reply::reply` meets its contract: the plant is refused, its masks are bad, or they are taken in turn.
 -- Assumes nothing.
-use mathlib.Core.Path.{sym, _∙_}
+use mathlib.Core.Path.{_≡_, sym, _∙_}
+use mathlib.Core.List.{List}
+use Prim.Native.Nat.{ℕ}
 use lib.Seq.{length-take-le}
 use borrow.Author.Tests.{not-true, not-false}
+use Rattle.listing.specs.Buffers.{placed, placedLong}
+use Rattle.reply.specs.Reply.{replyTo}
+use Rattle.reply.specs.Laws.{FirstDecide, FewBytes, ListsAfresh}
 use Rattle.reply.proofs.Parts.{reply-refused, reply-bad, reply-good}
+use Rattle.reply.proofs.Room.{reply-most}
+use Rattle.reply.proofs.Long.{reply-first}
+use Rattle.reply.proofs.Afresh.{reply-afresh}
 use borrow.Author.Needs.{needs}
 use Rattle.reply.proofs.reply.Statement.{statement}
 use Rattle.reply.proofs.reply.Tie as tie
+
+-- the clauses, by the text that the answer is
+said : (input o text : List ℕ) {o′ : List ℕ} {r : ℕ} → replyTo input ≡ text
+    → (r ≡ placedLong text o) × (o′ ≡ placed text o)
+    → (r ≡ placedLong (replyTo input) o)
+    × ((o′ ≡ placed (replyTo input) o) × (FirstDecide × (FewBytes × ListsAfresh)))
+said input o text e wrote = (rw e (wrote .0), (rw e (wrote .1), (reply-first, (reply-most, reply-afresh))))
 
 plant-end-requires : tie.Need-plant-end-requires
 plant-end-requires c κs = search needs
@@ -27,7 +42,7 @@ returns : tie.Need-returns
 returns c =
     let t = c .before .before .before .before in
     let f = t .before in
-    rw (reply-refused (f .before .before .plant-end .ensures) (f .plant-fault .ensures) (t .if1 .taken))
+    said _ _ _ (reply-refused (f .before .before .plant-end .ensures) (f .plant-fault .ensures) (t .if1 .taken))
     (c .before .before .refused-text .ensures)
 
 sub-masks : tie.Need-sub-masks
@@ -53,7 +68,7 @@ returns-2 c =
     let t = c .before .before .before .before in
     let e = t .before .before .before in
     let f = e .before in
-    rw
+    said _ _ _
     (reply-bad (f .before .before .plant-end .ensures) (sym (f .plant-fault .ensures) ∙ e .if1 .left)
     (sym (t .before .masks-ok .ensures) ∙ not-true _ (t .if2 .taken)))
     (c .before .before .bad-masks-text .ensures)
@@ -74,7 +89,7 @@ returns-3 c =
     let t = c .before .before .before .before in
     let e = t .before .before .before in
     let f = e .before in
-    rw
+    said _ _ _
     (reply-good (f .before .before .plant-end .ensures) (sym (f .plant-fault .ensures) ∙ e .if1 .left)
     (sym (t .before .masks-ok .ensures) ∙ not-false _ (t .if2 .left)))
     (c .before .before .reply-masks .ensures .long, c .before .before .reply-masks .ensures .bytes)
