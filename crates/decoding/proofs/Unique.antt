@@ -14,7 +14,8 @@ use Rattle.statements.specs.Books.{bookLong, bookStates, bookMoves, bookGoals, 
 use Rattle.statements.specs.Books.{rowPlace, entryPlace, waitAt, moveAt, stageAt}
 use Rattle.decoding.proofs.Sizes.{opening, long-is, row-place, entry-place}
 
-word-drop : (m r : ℕ) (b : List ℕ) → word r (drop (2 * m) b) ≡ word (m + r) b
+-- a number past some others
+pub word-drop : (m r : ℕ) (b : List ℕ) → word r (drop (2 * m) b) ≡ word (m + r) b
 unfolding word
 word-drop m r b = rw (getD-drop (2 * m) b (2 * r), getD-drop (2 * m) b (2 * r + 1), ← add-assoc, ← mul-add)
 

@@ -1,16 +1,16 @@
 -- A list of withdrawals: its single ones are accepted in turn, each from an accepted book, and together they come to
 -- one withdrawal of all moves that they name. Assumes nothing.
-use mathlib.Core.Path.{_≡_, refl, ap, _∙_}
+use mathlib.Core.Path.{_≡_, refl, ap, ap₂, _∙_}
 use mathlib.Core.Logic.{inl, inr}
 use mathlib.Core.Bool.{true, false}
 use mathlib.Core.List.{List, [], _∷_}
-use Prim.Native.Nat.{ℕ, suc, _-_, _/_, _%_}
+use Prim.Native.Nat.{ℕ, zero, suc, _+_, _-_, _*_, _/_, _%_, _<_}
 use native.Mathlib.Omega.{arith}
 use lib.Dec.{eqb}
-use lib.ListN.{length, drop}
-use borrow.Author.Tests.{eqb-true, eqb-false}
+use lib.ListN.{length, getD, drop}
+use borrow.Author.Tests.{eqb-true, eqb-false, ne-eqb}
 use Rattle.statements.specs.Sets.{isIn}
-use Rattle.statements.specs.Plants.{plantOf}
+use Rattle.statements.specs.Plants.{word, plantOf}
 use Rattle.statements.specs.Kept.{keptWithin}
 use Rattle.statements.specs.Books.{bookMask, maskAt, maskOk, eachOk, lessMask, keptBefore, bookWithin, withdrawnBook}
 use Rattle.statements.specs.Books.{masksIn, masksOf, unionOf, withdrawnInTurn, withdrawnList}
@@ -20,6 +20,7 @@ use Rattle.statements.specs.Demands.{In-turn}
 use Rattle.sets.proofs.Tests.{decided, and-left, and-right, or-cases}
 use Rattle.sets.proofs.Members.{isIn-none}
 use Rattle.decoding.proofs.Masks.{less-both, union-names}
+use Rattle.decoding.proofs.Unique.{word-drop}
 use Rattle.decoding.proofs.Accepted.{book-alike}
 use Rattle.decoding.proofs.Faults.{LentOk, lent-ok, lent-fine, list-parts, list-masks, list-at-once}
 use Rattle.demands.proofs.Plants.{before-allowed, given-before}
@@ -45,6 +46,26 @@ some-mask m h =
           let count : length m / 4 ≡ suc n = omega (arith, eqb-false (length m) 0 e) in
           (maskAt m 0, masksIn n (drop 4 m), first-mask m n e count)
     ]
+
+-- the masks of a list, by number
+mask-past : (k : ℕ) (m : List ℕ) → maskAt (drop 4 m) k ≡ maskAt m (suc k)
+unfolding maskAt
+mask-past k m =
+    let low : 2 + 2 * k ≡ 2 * suc k = omega arith in
+    let high : 2 + (2 * k + 1) ≡ 2 * suc k + 1 = omega arith in
+    ap₂ (λ (v w : ℕ). v + 65536 * w) (word-drop 2 (2 * k) m ∙ ap (λ n. word n m) low)
+    (word-drop 2 (2 * k + 1) m ∙ ap (λ n. word n m) high)
+
+masks-at : (n k : ℕ) (m : List ℕ) → k < n → getD (masksIn n m) k 0 ≡ maskAt m k
+unfolding masksIn
+masks-at zero k m h = absurd (omega arith)
+masks-at (suc n) zero m h = refl
+masks-at (suc n) (suc k) m h = masks-at n k (drop 4 m) (omega arith) ∙ mask-past k m
+
+masks-long : (n : ℕ) (m : List ℕ) → length (masksIn n m) ≡ n
+unfolding masksIn
+masks-long zero m = refl
+masks-long (suc n) m = ap suc (masks-long n (drop 4 m))
 
 module _ (s : List ℕ) where
   -- a book withdrawn from one that is accepted with the plant is accepted with it
@@ -115,9 +136,12 @@ list-book s b m lent whole =
 
 -- request (vi)
 pub in-turn : In-turn
-unfolding withdrawnList
+unfolding masksOf maskAt withdrawnList
 in-turn =
     record {
+      masks-are = λ m k h. rw (ne-eqb (length m) 0 (λ e. absurd (omega (arith, e, h)))) (masks-at (length m / 4) k m h);
+      masks-count = λ m h. rw (ne-eqb (length m) 0 (λ e. absurd (omega (arith, e, h)))) (masks-long (length m / 4) m);
+      no-masks = refl;
       each-accepted = λ s b m room drops h.
           let parts = list-parts s b m room drops h in
           each-accepted s room drops (parts .2) b (masksOf m) (parts .0) (list-masks s b m room drops h .1);

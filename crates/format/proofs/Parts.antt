@@ -1,5 +1,5 @@
 -- Labels and arrows of a plant one after another: what a loop has left from a place on. Assumes nothing.
-use mathlib.Core.Path.{_≡_, ap, _∙_}
+use mathlib.Core.Path.{_≡_, refl, sym, ap, _∙_}
 use mathlib.Core.Bool.{Bool, true, false, _&&_, and-assoc}
 use mathlib.Core.List.{List, _∷_}
 use Prim.Native.Nat.{ℕ, zero, suc, _+_, _-_, _*_, _^_, _≤_, _<_}
@@ -13,6 +13,9 @@ use lib.Bits.{bitAnd}
 use Rattle.statements.specs.Sets.{pick}
 use Rattle.statements.specs.Plants.{word, Arrow, words, arrowsFrom, labelsOk, rank, arrowsOk}
 use Rattle.decoding.proofs.Faults.{words-length}
+use Rattle.format.specs.declared.arrows.Arrow.{Arrow as ReadArrow}
+use Rattle.format.specs.Arrows.{arrowIn}
+use Rattle.format.specs.Checks.{leastAfter}
 use Rattle.format.proofs.Words.{word-further}
 
 -- a number that is not 0 is one more than its predecessor
@@ -83,45 +86,84 @@ module _ (free : Bool) (goals : ℕ) (s : List ℕ) (at left : ℕ) where
   unfolding labelsOk words
   labels-end none = let e : left ≡ 0 = omega arith in rw e
 
--- the three numbers of the arrow at a place, and its rank, as a loop reads them
-pub record ArrowRead (s : List ℕ) (at from move to rank : ℕ) : Type 0 where
-  pub from-is : from ≡ word 0 (drop at s)
-  pub move-is : move ≡ word 0 (drop (at + 2) s)
-  pub to-is : to ≡ word 0 (drop (at + 4) s)
-  pub rank-is : rank ≡ 65536 * (65536 * from) + (65536 * move + to)
+-- the least rank after an arrow, told from its own rank
+pub least-is : (states moves least : ℕ) (a : ReadArrow) {r : ℕ}
+    → r ≡ 65536 * (65536 * a .from) + (65536 * a .action + a .to)
+    → leastAfter states moves least a
+    ≡ pick (ltb (a .from) states && (ltb (a .action) moves && (ltb (a .to) states && leb least r))) (r + 1) 0
+unfolding leastAfter
+least-is states moves least a e = rw e refl
 
--- a loop over arrows: while some are left, the next one is tested and the rest stand for all
-module _ (states moves least : ℕ) (s : List ℕ) (at left : ℕ) where
-  -- the arrows from the place on are in range and ascend from `least`
-  abbrev Arrows : Bool
-  Arrows = arrowsOk states moves least (arrowsFrom left (drop at s))
+-- a number above 0 was picked by a test that holds
+picked : (b : Bool) (r : ℕ) → (pick b (r + 1) 0 ≡ 0 → ⊥) → b ≡ true
+picked true r h = refl
+picked false r h = absurd (h refl)
+
+-- 0 was picked by a test that does not
+passed-by : (b : Bool) (r : ℕ) → pick b (r + 1) 0 ≡ 0 → b ≡ false
+passed-by true r h = let z : ⊥ = omega (arith, h) in absurd z
+passed-by false r h = refl
+
+-- a loop over a plant's arrows, by their numbers: while some are left, the next one is tested and the rest stand for
+-- all
+module _ (states moves : ℕ) (s : List ℕ) (count : ℕ) where
+  -- the arrows from arrow k on are in range and ascend from `least`
+  abbrev pub Ascend : ℕ → ℕ → Bool
+  Ascend k least =
+      arrowsOk states moves least (arrowsFrom (count - k) (drop (16 + 2 * word 0 s + 6 * k) s))
+
+  -- from the first arrow on they are all
+  pub arrows-start : arrowsOk states moves 0 (arrowsFrom count (drop (16 + 2 * word 0 s) s)) ≡ Ascend 0 0
+  arrows-start =
+      let place = 16 + 2 * word 0 s in
+      let n : count ≡ count - 0 = omega arith in
+      let p : place ≡ place + 6 * 0 = omega arith in
+      ap (λ (m : ℕ). arrowsOk states moves 0 (arrowsFrom m (drop place s))) n
+      ∙ ap (λ (m : ℕ). arrowsOk states moves 0 (arrowsFrom (count - 0) (drop m s))) p
 
   -- none is left
-  pub arrows-end : left ≤ 0 → Arrows ≡ true
+  pub arrows-end : (k least : ℕ) → count ≤ k → Ascend k least ≡ true
   unfolding arrowsOk arrowsFrom
-  arrows-end none = let e : left ≡ 0 = omega arith in rw e
+  arrows-end k least none = let e : count - k ≡ 0 = omega arith in rw e
 
-  module _ {f m t r : ℕ} (read : ArrowRead s at f m t r) (more : 0 < left) where
-    -- the next one is in range and ascends
+  module _ (k least : ℕ) (more : k < count) where
+    -- what is told of the next arrow: the least rank after it
+    abbrev Least : ℕ
+    Least = leastAfter states moves least (arrowIn s k)
+
+    -- the rank of the next arrow
+    abbrev Rank : ℕ
+    Rank =
+        let a = arrowIn s k in
+        65536 * (65536 * a .from) + (65536 * a .action + a .to)
+
+    -- it is in range and ascends
     abbrev First : Bool
-    First = ltb f states && (ltb m moves && (ltb t states && leb least r))
-
-    -- those after it are and do
-    abbrev Others : Bool
-    Others = arrowsOk states moves (r + 1) (arrowsFrom (left - 1) (drop (at + 6) s))
+    First =
+        let a = arrowIn s k in
+        ltb (a .from) states && (ltb (a .action) moves && (ltb (a .to) states && leb least Rank))
 
     -- one turn: the next arrow, and those after it
-    arrows-turn : Arrows ≡ First && Others
-    unfolding arrowsOk rank
+    arrows-turn : Ascend k least ≡ First && Ascend (k + 1) (Rank + 1)
+    unfolding arrowsOk rank arrowIn
     arrows-turn =
-        ap (λ (n : ℕ). arrowsOk states moves least (arrowsFrom n (drop at s))) (one-less left more)
-        ∙ ap (arrowsOk states moves least) (arrows-more s at (left - 1))
-        ∙ simp (read .rank-is, read .from-is, read .move-is, read .to-is, and-assoc, add-one)
+        let place = 16 + 2 * word 0 s + 6 * k in
+        let n : count - k ≡ suc (count - (k + 1)) = omega arith in
+        let p : place + 6 ≡ 16 + 2 * word 0 s + 6 * (k + 1) = omega arith in
+        ap (λ (m : ℕ). arrowsOk states moves least (arrowsFrom m (drop place s))) n
+        ∙ ap (arrowsOk states moves least) (arrows-more s place (count - (k + 1)))
+        ∙ simp (p, and-assoc, add-one)
 
     -- the next arrow passes
-    pub arrows-pass : First ≡ true → Arrows ≡ Others
-    arrows-pass e = arrows-turn ∙ ap (λ (b : Bool). b && Others) e
+    pub arrows-pass : (Least ≡ 0 → ⊥) → Ascend k least ≡ Ascend (k + 1) Least
+    unfolding leastAfter
+    arrows-pass good =
+        let e = picked First Rank good in
+        arrows-turn
+        ∙ ap (λ (b : Bool). b && Ascend (k + 1) (Rank + 1)) e
+        ∙ sym (ap (λ (b : Bool). Ascend (k + 1) (pick b (Rank + 1) 0)) e)
 
     -- it fails
-    pub arrows-fail : First ≡ false → Arrows ≡ false
-    arrows-fail e = arrows-turn ∙ ap (λ (b : Bool). b && Others) e
+    pub arrows-fail : Least ≡ 0 → Ascend k least ≡ false
+    unfolding leastAfter
+    arrows-fail bad = arrows-turn ∙ ap (λ (b : Bool). b && Ascend (k + 1) (Rank + 1)) (passed-by First Rank bad)

@@ -1,6 +1,10 @@
 -- Parts of the check of a plant, which only functions inside this crate promise: its labels and its arrows.
-use mathlib.Core.Bool.{Bool}
+use mathlib.Core.Bool.{Bool, _&&_}
+use Prim.Native.Nat.{ℕ, _+_, _*_}
+use lib.Dec.{ltb, leb}
+use Rattle.statements.specs.Sets.{pick}
 use Rattle.statements.specs.Plants.{Plant, labelsOk, arrowsOk}
+use Rattle.format.specs.declared.arrows.Arrow.{Arrow}
 
 -- every label of a plant is in range
 abbrev pub labelsFine : Plant → Bool
@@ -9,3 +13,9 @@ labelsFine p = labelsOk (p .settles) (p .goals) (p .labels)
 -- every arrow of a plant is in range, and the arrows strictly ascend
 abbrev pub arrowsFine : Plant → Bool
 arrowsFine p = arrowsOk (p .states) (p .moves) 0 (p .arrows)
+
+-- the least rank that the arrow after this one may have; 0 if this one is out of range or its rank is below the least
+unfoldable pub leastAfter : ℕ → ℕ → ℕ → Arrow → ℕ
+leastAfter states moves least a =
+    let rank = 65536 * (65536 * a .from) + (65536 * a .action + a .to) in
+    pick (ltb (a .from) states && (ltb (a .action) moves && (ltb (a .to) states && leb least rank))) (rank + 1) 0

@@ -1,4 +1,8 @@
 // A plant's bytes: header, labels, arrows.
+use crate::arrows::Arrow;
+use crate::arrows::after;
+use crate::arrows::arrow_in;
+use crate::arrows::new;
 use crate::word::bit_at;
 use crate::word::number;
 use crate::word::word_at;
@@ -8,9 +12,9 @@ ghost use mathlib.Core.Bool.{true};
 ghost use Prim.Native.Nat.{_+_, _-_, _*_, _≤_};
 ghost use lib.Bits.{bitAnd};
 ghost use lib.ListN.{length, getD, drop};
-ghost use Rattle.format.specs.Checks.{labelsFine, arrowsFine};
+ghost use Rattle.format.specs.Checks.{labelsFine, arrowsFine, leastAfter};
 ghost use Rattle.statements.specs.Sets.{pick};
-ghost use Rattle.statements.specs.Plants.{words, arrowsFrom, plantOf, allowed, settled};
+ghost use Rattle.statements.specs.Plants.{word, words, arrowsFrom, plantOf, allowed, settled};
 ghost use Rattle.statements.specs.Plants.{headOk, labelsOk, arrowsOk};
 ghost use Rattle.statements.specs.Books.{bookLong};
 
@@ -86,25 +90,32 @@ fn rank_of(from: u16, action: u16, to: u16) -> u64
     65536 * (65536 * (from as u64)) + (65536 * (action as u64) + (to as u64))
 }
 
-// The arrows from a place on, as many as given, are in range and strictly ascend by from, move and to.
-fn arrows_ascend(plant: &[u8], start: usize, count: usize, states: u16, moves: u16) -> bool
-    requires { ⌜ start + 6 * count ≤ length (now plant) ⌝ }
-    ensures { λ r. ⌜ r ≡ arrowsOk states moves 0 (arrowsFrom count (drop start (now (plant .entry)))) ⌝ }
+// The least rank that the arrow after this one may have; 0 if this one is out of range or its rank is below the least.
+fn least_after(arrow: Arrow, least: u64, states: u16, moves: u16) -> u64
+    ensures { λ r. ⌜ r ≡ leastAfter states moves least arrow ⌝ }
 {
-    let mut at = start;
-    let mut left = count;
+    let rank = rank_of(arrow.from, arrow.action, arrow.to);
+    if (arrow.from < states) & ((arrow.action < moves) & ((arrow.to < states) & (least <= rank))) {
+        return rank + 1;
+    }
+    0
+}
+
+// The first arrows, as many as given, are in range and strictly ascend by from, move and to. One reader goes from each
+// to the next.
+fn arrows_ascend(plant: &[u8], count: u16, states: u16, moves: u16) -> bool
+    requires { ⌜ 16 + 2 * word 0 (now plant) + 6 * count ≤ length (now plant) ⌝ }
+    ensures { λ r. ⌜ r ≡ arrowsOk states moves 0
+        (arrowsFrom count (drop (16 + 2 * word 0 (now (plant .entry))) (now (plant .entry)))) ⌝ }
+{
+    let mut arrows = new(plant, 0);
     let mut least: u64 = 0;
-    while 0 < left {
-        let from = word_in(plant, at);
-        let action = word_in(plant, at + 2);
-        let to = word_in(plant, at + 4);
-        let rank = rank_of(from, action, to);
-        if !((from < states) & ((action < moves) & ((to < states) & (least <= rank)))) {
+    while arrows.at < count {
+        least = least_after(arrow_in(arrows.plant, arrows.at), least, states, moves);
+        if least == 0 {
             return false;
         }
-        least = rank + 1;
-        at += 6;
-        left -= 1;
+        arrows = after(arrows);
     }
     true
 }
@@ -127,9 +138,7 @@ pub(crate) fn arrows_ok(plant: &[u8]) -> bool
     requires { ⌜ headOk (now plant) ≡ true ⌝ }
     ensures { λ r. ⌜ r ≡ arrowsFine (plantOf (now (plant .entry))) ⌝ }
 {
-    let s = number(plant, 0);
-    let start = 16 + 2 * (s as usize);
-    arrows_ascend(plant, start, number(plant, 3) as usize, s, number(plant, 1))
+    arrows_ascend(plant, number(plant, 3), number(plant, 0), number(plant, 1))
 }
 
 // The length of a plant's books.

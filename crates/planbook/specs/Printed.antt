@@ -10,5 +10,5 @@ use Rattle.reply.specs.Reply.{replyTo}
 -- the buffer holds, the text is the answer to the whole input; after a failed read it is empty
 pub record Printed (buffer : List ℕ) (count : ℕ) (failed : Bool) (text : List ℕ) : Type 0 where
   pub answer : failed ≡ false → (whole : List ℕ) → take count buffer ≡ take (length buffer) whole
-    → text ≡ replyTo whole
+      → text ≡ replyTo whole
   pub nothing : failed ≡ true → text ≡ []

@@ -1,5 +1,5 @@
--- A state's row, refused and handed back: an accepted state's row stands within the book, and its numbers are those that
--- are read there. Assumes nothing.
+-- A state's row, refused and handed back: an accepted state's row stands within the book, and its numbers are those
+-- that are read there. Assumes nothing.
 use mathlib.Core.Path.{_≡_, sym, ap, ap₂, _∙_}
 use mathlib.Core.Logic.{inl, inr}
 use mathlib.Core.Bool.{true, false, not}
@@ -11,7 +11,8 @@ use lib.ListN.{length, getD, take, drop, length-drop}
 use lib.Seq.{length-take-le, getD-take, getD-drop}
 use borrow.Author.Tests.{eq-eqb, ne-eqb}
 use Rattle.statements.specs.Plants.{word}
-use Rattle.statements.specs.Books.{bookStates, bookGoals, staged, rowPlace, entryPlace, rowLong, waitAt, moveAt, stageAt}
+use Rattle.statements.specs.Books.{bookStates, bookGoals, staged, rowPlace, entryPlace, rowLong, waitAt, moveAt}
+use Rattle.statements.specs.Books.{stageAt}
 use Rattle.statements.specs.Calls.{consultFault, rowPart}
 use Rattle.promises.specs.Says.{accepted, rowStart}
 use Rattle.promises.specs.Rows.{opens, RowReads, Rows}

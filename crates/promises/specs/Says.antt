@@ -46,9 +46,9 @@ pub record MovesSays (s b : List ℕ) (x i : ℕ) (r : Mask) : Type 0 where
 unfoldable pub rowStart : List ℕ → ℕ → ℕ
 rowStart b x = pick (accepted b x 0) (rowPlace b x) 0
 
--- handing back the row of state x as a part of a book that is lent with bytes b: its bytes; it is in the book's block of
--- memory, as far behind the book's start as the row is; and it is empty exactly when refused. A pointer is a block and
--- a place in it
+-- handing back the row of state x as a part of a book that is lent with bytes b: its bytes; it is in the book's block
+-- of memory, as far behind the book's start as the row is; and it is empty exactly when refused. A pointer is a block
+-- and a place in it
 pub record RowSays (b : List ℕ) (x : ℕ) (lent : ℕ × ℕ) (row : List ℕ) (part : ℕ × ℕ) : Type 0 where
   pub bytes : row ≡ rowPart b x
   pub block : part .0 ≡ lent .0
@@ -120,5 +120,6 @@ pub record Determined : Type 0 where
       Says s b ask o o′ d d′ r → Says s b ask o o″ d d″ r′ → (r ≡ r′) × (o′ ≡ o″) × (d′ ≡ d″)
   pub preview : {s b d d′ d″ : List ℕ} {gone : ℕ} {c c′ : Cost} →
       PreviewSays s b gone d d′ c → PreviewSays s b gone d d″ c′ → (c ≡ c′) × (d′ ≡ d″)
+  -- of a row its bytes and its place
   pub row : {b row row′ : List ℕ} {x : ℕ} {lent part part′ : ℕ × ℕ} →
       RowSays b x lent row part → RowSays b x lent row′ part′ → (row ≡ row′) × (part ≡ part′)

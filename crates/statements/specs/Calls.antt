@@ -98,7 +98,8 @@ pub data Ask : Type 0 where
   withdrawsList : (masks : List ℕ) → Ask
   returns : (back : ℕ) → Ask
 
--- a call on the standing book: what it asks for, and its buffers' lengths; a make has no buffer for a list
+-- a call on the standing book: what it asks for, and the lengths of its book buffer and of its buffer for a list, which
+-- has no part in a make
 pub record Call : Type 0 where
   pub ask : Ask
   pub room : ℕ

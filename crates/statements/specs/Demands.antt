@@ -5,7 +5,7 @@ use mathlib.Core.Path.{_≡_}
 use mathlib.Core.Logic.{_↔_, _⊎_}
 use mathlib.Core.Bool.{true, false}
 use mathlib.Core.List.{List, [], _∷_, _++_}
-use Prim.Native.Nat.{ℕ, suc, _+_, _≤_, _<_}
+use Prim.Native.Nat.{ℕ, suc, _+_, _*_, _/_, _≤_, _<_}
 use lib.ListN.{length, getD}
 use lib.Bits.{bitOr}
 use Rattle.statements.specs.Sets.{bit, lowest, isIn}
@@ -216,6 +216,11 @@ pub record Demand-2 : Type 0 where
 
 -- request (vi), of any list of withdrawals that is accepted, from any book, also one that nobody made
 pub record In-turn : Type 0 where
+  -- its masks are its bytes, four by four, the low one first; an empty list acts as one mask of 0
+  pub masks-are : (masks : List ℕ) (k : ℕ) → k < length masks / 4 →
+      getD (masksOf masks) k 0 ≡ word (2 * k) masks + 65536 * word (2 * k + 1) masks
+  pub masks-count : (masks : List ℕ) → 0 < length masks → length (masksOf masks) ≡ length masks / 4
+  pub no-masks : masksOf [] ≡ 0 ∷ []
   -- each of its single withdrawals would be accepted in turn
   pub each-accepted : (s b masks : List ℕ) (room drops : ℕ) → withdrawListFault s b masks room drops ≡ 0 →
       (number : ℕ) → isIn number (answers s b (singles (masksOf masks) room drops)) ≡ true → number ≡ 0

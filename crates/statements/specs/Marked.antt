@@ -1,5 +1,6 @@
 -- The marked examples M1 to M11 of document 01 as one table, with M10 as request (v) has it, one of rows, and one each
--- for requests (i) and (iv) to (vii). Plants and books are written as their two-byte numbers, and so are lists of masks.
+-- for requests (i) and (iv) to (vii). Plants and books are written as their two-byte numbers, and so are lists of
+-- masks.
 use mathlib.Core.Path.{_≡_}
 use mathlib.Core.List.{List, [], _∷_, _++_}
 use Prim.Native.Nat.{ℕ, _-_}

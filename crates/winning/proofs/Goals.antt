@@ -85,7 +85,8 @@ ahead-after n s i k hs hi hk =
           elim (decLt (s + k) n) [
             | yes m ↦ rw (after-on n s k m) (omega (arith, ahead-round n (s + k) i (omega arith)))
             | no m ↦
-                rw (after-round n s k (omega arith) (omega arith)) (omega (arith, ahead-on n (s + k - n) i (omega arith)))
+                rw (after-round n s k (omega arith) (omega arith))
+                (omega (arith, ahead-on n (s + k - n) i (omega arith)))
           ]
       | no l ↦
           let near = ahead-on n s i (omega arith) in

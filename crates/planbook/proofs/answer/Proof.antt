@@ -53,8 +53,8 @@ returns-2 c =
     let s = k .before .before .before .before .before .before in
     record {
       answer =
-      λ read whole same.
-      answered k ∙ ap replyTo same ∙ k .reply .ensures .1 .1 .0 (length (now (s .args .buffer))) whole (s .pre .0);
+          λ read whole same.
+          answered k ∙ ap replyTo same ∙ k .reply .ensures .1 .1 .0 (length (now (s .args .buffer))) whole (s .pre .0);
       nothing = λ failed. absurd (true≢false (sym failed ∙ k .before .before .before .if1 .left));
     }
 

@@ -1,5 +1,5 @@
--- `planbook_c::planbook_row` meets its contract: the row that is handed back tells whether the call is accepted, and the
--- row of an accepted state stands within the book. Assumes nothing.
+-- `planbook_c::planbook_row` meets its contract: the row that is handed back tells whether the call is accepted, and
+-- then it stands within the book. Assumes nothing.
 use mathlib.Core.Path.{_≡_}
 use Prim.Native.Nat.{_<_}
 use native.Mathlib.Omega.{arith}
