@@ -1,14 +1,18 @@
--- Consulting a book and handing back a row, case by case: refused, lost, kept. Assumes nothing.
+-- Consulting a book and handing back a row, case by case: refused, lost, kept; and what a call for all good moves is
+-- given. Assumes nothing.
 use mathlib.Core.Path.{_≡_, sym, ap₂, _∙_}
 use mathlib.Core.Bool.{true, false}
 use mathlib.Core.List.{List}
-use Prim.Native.Nat.{ℕ, _+_, _-_}
+use Prim.Native.Nat.{ℕ, _+_, _-_, _<_}
 use native.Mathlib.Omega.{arith}
 use lib.Dec.{eqb}
 use lib.ListN.{take, drop}
 use borrow.Author.Tests.{ne-eqb}
+use Rattle.statements.specs.Plants.{plantOf, plantFault}
 use Rattle.statements.specs.Books.{rowPlace, rowLong, waitAt, moveAt, isLost, arrive}
-use Rattle.statements.specs.Calls.{consultFault, rowPart}
+use Rattle.statements.specs.Calls.{lentFault, consultFault, movesFault, rowPart}
+use Rattle.decoding.proofs.Faults.{first-iff, lent-ok}
+use Rattle.decoding.proofs.Asked.{moves-fine}
 use Rattle.promises.specs.Says.{accepted, keeps, ConsultSays}
 use Rattle.promises.proofs.Rows.{row-given}
 
@@ -47,3 +51,10 @@ pub row-is : (b : List ℕ) (x at n : ℕ) → consultFault b x 0 ≡ 0 → at �
 row-is b x at n given p e =
     let size : at + n - at ≡ rowLong b = omega arith in
     ap₂ (λ (m q : ℕ). take m (drop q b)) size p ∙ sym (row-given b x given)
+
+-- an accepted call for all good moves is lent a good plant, and asks for one of its states
+pub moves-given : (s b : List ℕ) (x i : ℕ) → movesFault s b x i ≡ 0 → (plantFault s ≡ 0) × (x < plantOf s .states)
+unfolding movesFault
+moves-given s b x i e =
+    let lent = lent-ok s b (first-iff (lentFault s b) _ .0 e .0) in
+    (lent .plant, omega (arith, moves-fine b x i s e .state, lent .states))

@@ -1,1 +1,2 @@
--- No definitions of its own: what the calls promise is in crate promises, specs/Says.antt.
+-- Definitions that contracts inside this crate cite. What the calls promise is in crate promises, specs/Says.antt.
+pub mod Checks

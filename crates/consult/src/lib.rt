@@ -1,5 +1,6 @@
 // The public calls that read a book: consult it for a move or for all good ones, hand back a state's row.
 mod goals;
+mod moves;
 
 use promises::Advice;
 use promises::Mask;

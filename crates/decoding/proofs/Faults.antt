@@ -137,7 +137,7 @@ pub record BookOk (b : List ℕ) : Type 0 where
   pub count : bookCount b ≡ length (bookKept b)
 
 -- the length is that of its sort
-sort-size : (b : List ℕ) → bookTotal b ≡ length b →
+pub sort-size : (b : List ℕ) → bookTotal b ≡ length b →
     (eqb (bookTotal b) (bookLong false (bookStates b) (bookGoals b)) || staged b) ≡ true →
     length b ≡ bookLong (staged b) (bookStates b) (bookGoals b)
 sort-size b e h =

@@ -5,15 +5,18 @@ use mathlib.Core.List.{List}
 use Prim.Native.Nat.{ℕ, zero, suc, _+_, _-_, _*_, _^_, _≤_, _<_}
 use native.Mathlib.Omega.{arith}
 use lib.Dec.{eqb, leb}
-use lib.ListN.{length, drop}
+use borrow.Author.Tests.{eqb-true, ne-eqb}
+use lib.ListN.{length, getD, drop, List·getD-eq-default}
 use Rattle.statements.specs.Sets.{pick, numbers, every, filter}
 use Rattle.statements.specs.Plants.{word}
 use Rattle.statements.specs.Books.{lostMark, bookStates, bookMoves, bookGoals, bookCount, bookMask, bookKept}
 use Rattle.statements.specs.Books.{staged, rowPlace, rowLong, entryPlace, stageAt, stageLost, stageHeld, waitAt, moveAt}
-use Rattle.statements.specs.Books.{isLost, isHeld, rowsOk}
-use Rattle.sets.proofs.Tests.{and-none}
+use Rattle.statements.specs.Books.{isLost, isHeld, rowsOk, bookLong, maskOk, bookHeadOk}
+use Rattle.sets.proofs.Tests.{and-none, and-iff}
+use Rattle.decoding.proofs.Faults.{sort-size}
+use Rattle.decoding.proofs.Sizes.{opening, long-is, entry-place, row-within}
 use Rattle.rows.specs.Checks.{lostAt, heldAt, entryIn, entriesLost, lostIn, entriesHeld, heldIn}
-use Rattle.format.proofs.Words.{word-further}
+use Rattle.format.proofs.Words.{word-here, word-further}
 use Rattle.rows.proofs.Loops.{every-start, every-pass, every-fail, every-end}
 use Rattle.rows.proofs.Loops.{countFrom, count-start, count-more, count-same, count-end}
 
@@ -30,6 +33,17 @@ wait-place b x i = refl
 pub move-place : (b : List ℕ) (x i : ℕ) → moveAt b x i ≡ word 0 (drop (entryPlace b x i + 2) b)
 unfolding moveAt
 move-place b x i = word-further b (entryPlace b x i) 1
+
+-- what a good header says of the mask and of the length
+pub record BookHead (b : List ℕ) : Type 0 where
+  pub mask-ok : maskOk (bookMoves b) (bookMask b) ≡ true
+  pub size : length b ≡ bookLong (staged b) (bookStates b) (bookGoals b)
+
+pub head-given : (b : List ℕ) → bookHeadOk b ≡ true → BookHead b
+unfolding bookHeadOk
+head-given b h =
+    let tests = simp and-iff at h in
+    record { mask-ok = search; size = sort-size b (omega (arith, eqb-true)) (search) }
 
 -- places, by whether there are stages
 module _ (b : List ℕ) (x : ℕ) where
@@ -61,6 +75,20 @@ module _ (b : List ℕ) (x : ℕ) where
   pub entry-known : (i : ℕ) (t : Bool) → t ≡ staged b → entryIn t b x i ≡ entryPlace b x i
   unfolding entryIn entryPlace
   entry-known i t e = rw e refl
+
+  -- the entries of a state's row stand within a book with a good header
+  pub entries-within : (t : Bool) → t ≡ staged b → BookHead b → x < bookStates b
+      → entryIn t b x 0 + 4 * bookGoals b ≤ length b
+  entries-within t e head h =
+      let w = opening (staged b) + bookGoals b * 4 in
+      omega (
+        arith,
+        entry-known 0 t e,
+        entry-place b x 0,
+        head .size,
+        long-is (staged b) (bookStates b) (bookGoals b),
+        row-within x w h,
+      )
 
   -- stages, by the same
   pub stage-read : (t : Bool) (r k : ℕ) → t ≡ staged b → t ≡ true → k ≡ rowPlace b x → r ≡ word 0 (drop k b) → r ≡ stageAt b x
@@ -107,6 +135,15 @@ module _ (b : List ℕ) (x : ℕ) where
   pub held-known : (t r : Bool) → t ≡ staged b → r ≡ heldIn t b x → r ≡ isHeld b x
   unfolding heldIn entriesHeld entryIn heldAt isHeld stageHeld waitAt moveAt entryPlace
   held-known t r e h = h ∙ rw e refl
+
+-- an entry that is cut off by the book's end is not lost: its last byte counts as 0
+pub lost-cut : (b : List ℕ) (at : ℕ) → ((k : ℕ) → getD b k 0 < 256) → length b < at + 4 → false ≡ lostAt b at
+unfolding lostAt
+lost-cut b at bytes h =
+    let high : getD b (at + 2 + 1) 0 ≡ 0 = List·getD-eq-default b 0 (omega arith) in
+    let low : word 1 (drop at b) ≡ lostMark → ⊥ =
+    λ e. omega (arith, e, word-further b at 1, word-here b (at + 2), high, bytes (at + 2)) in
+    sym (and-none (eqb (word 0 (drop at b)) lostMark) _ (ne-eqb (word 1 (drop at b)) lostMark low))
 
 -- the entries of a row stand one after the other
 entry-next : (t : Bool) (b : List ℕ) (x i : ℕ) → entryIn t b x i ≡ entryIn t b x 0 + 4 * i

@@ -1,13 +1,17 @@
 // Books as bytes: the check of one, document 01's answers 4 and 5, and the readers of its header and rows. Nothing here
 // trusts a lent byte: each function has an answer for any slice and any number.
-use format::word::bit_at;
 use format::word::mask_ok;
 use format::word::number;
+use format::word::pair;
 use format::word::word_at;
 ghost use mathlib.Core.Path.{_≡_};
-ghost use Prim.Native.Nat.{_^_, _<_};
-ghost use Rattle.rows.specs.Checks.{lostAt, heldAt, entryIn, entriesLost, lostIn, entriesHeld, heldIn};
-ghost use Rattle.statements.specs.Books.{bookMask, staged, rowPlace, rowLong, entryPlace, waitAt, moveAt, stageAt};
+ghost use mathlib.Core.Bool.{true};
+ghost use Prim.Native.Nat.{_+_, _^_, _<_};
+ghost use lib.ListN.{length, drop};
+ghost use Rattle.rows.specs.Checks.{lostAt, entryIn, entriesLost, lostIn, entriesHeld, heldIn};
+ghost use Rattle.statements.specs.Plants.{word};
+ghost use Rattle.statements.specs.Books.{bookStates, bookMask, staged, rowPlace, rowLong, entryPlace};
+ghost use Rattle.statements.specs.Books.{waitAt, moveAt, stageAt};
 ghost use Rattle.statements.specs.Books.{isLost, bookHeadOk, rowsOk, bookFault};
 
 // The moves in service: bit u is move u.
@@ -99,16 +103,18 @@ fn entry_lost(book: &[u8], at: usize) -> bool
     requires { ⌜ at < 2 ^ 60 ⌝ }
     ensures { λ r. ⌜ r ≡ lostAt (now (book .entry)) at ⌝ }
 {
+    if book.len() < at + 4 {
+        return false;
+    }
     (word_at(book, at) == 65535) & (word_at(book, at + 2) == 65535)
 }
 
-// The entry at a place has a wait of at most 1,023 and a move that the mask has.
-fn entry_held(book: &[u8], at: usize, moves: u16, mask: u32) -> bool
-    requires { ⌜ at < 2 ^ 60 ⌝ }
-    ensures { λ r. ⌜ r ≡ heldAt (now (book .entry)) moves mask at ⌝ }
+// The two-byte number that starts at a place within the book.
+fn word_in(book: &[u8], at: usize) -> u16
+    requires { ⌜ at + 1 < length (now book) ⌝ }
+    ensures { λ r. ⌜ r ≡ word 0 (drop at (now (book .entry))) ⌝ }
 {
-    let action = word_at(book, at + 2);
-    (word_at(book, at) <= 1023) & ((action < moves) & bit_at(mask, action as u32))
+    pair(book[at], book[at + 1])
 }
 
 // Both places of every entry of a state's row have the mark, in a book with stages or without.
@@ -149,27 +155,38 @@ pub fn is_lost(book: &[u8], state: u32) -> bool
     lost_in(book, staged(book), state)
 }
 
-// A state's row has every wait at most 1,023 and every move in the book's mask, in a book with stages or without.
+// A state's row has every wait at most 1,023 and every move in the book's mask, in a book with a good header. Joined
+// bit by bit, the waits are at most 1,023 just when each is, and the moves at most 31 likewise; the set of the moves is
+// within the mask just when each is in it.
 fn entries_held(book: &[u8], stages: bool, state: u32) -> bool
+    requires head { ⌜ bookHeadOk (now book) ≡ true ⌝ }
+    requires sort { ⌜ stages ≡ staged (now book) ⌝ }
+    requires within { ⌜ state < bookStates (now book) ⌝ }
     ensures { λ r. ⌜ r ≡ entriesHeld stages (now (book .entry)) state ⌝ }
 {
     let goals = number(book, 2);
-    let moves = number(book, 1);
     let mask = mask(book);
     let mut at = entry_in(book, stages, state, 0);
+    let mut waits: u16 = 0;
+    let mut moves: u16 = 0;
+    let mut set: u32 = 0;
     let mut goal: u16 = 0;
     while goal < goals {
-        if !entry_held(book, at, moves, mask) {
-            return false;
-        }
+        let action = word_in(book, at + 2);
+        waits = waits | word_in(book, at);
+        moves = moves | action;
+        set = set | (1 << ((action % 32) as u32));
         at += 4;
         goal += 1;
     }
-    true
+    (waits <= 1023) & ((moves <= 31) & ((set | mask) == mask))
 }
 
 // A state's row has such entries and, if there are stages, one from 1 to S.
 fn held_in(book: &[u8], stages: bool, state: u32) -> bool
+    requires head { ⌜ bookHeadOk (now book) ≡ true ⌝ }
+    requires sort { ⌜ stages ≡ staged (now book) ⌝ }
+    requires within { ⌜ state < bookStates (now book) ⌝ }
     ensures { λ r. ⌜ r ≡ heldIn stages (now (book .entry)) state ⌝ }
 {
     if !entries_held(book, stages, state) {
@@ -182,8 +199,9 @@ fn held_in(book: &[u8], stages: bool, state: u32) -> bool
     (1 <= stage) & (stage <= number(book, 0))
 }
 
-// Every row is wholly lost or held, and as many rows are not lost as the header counts.
+// Every row is wholly lost or held, and as many rows are not lost as the header counts; in a book with a good header.
 fn rows_ok(book: &[u8]) -> bool
+    requires { ⌜ bookHeadOk (now book) ≡ true ⌝ }
     ensures { λ r. ⌜ r ≡ rowsOk (now (book .entry)) ⌝ }
 {
     let states = number(book, 0) as u32;

@@ -1,5 +1,5 @@
--- `consult::good_moves` meets its contract: the number of a refusal, or the moves read from the plant and the book for the
--- goal arrived at. Assumes nothing.
+-- `consult::good_moves` meets its contract: the number of a refusal, or the moves read from the plant and the book for
+-- the goal arrived at. Assumes nothing.
 use borrow.Author.Needs.{needs}
 use mathlib.Core.Path.{_≡_, sym, ap, _∙_}
 use denote.Ref.{now}
@@ -9,6 +9,7 @@ use Rattle.statements.specs.Books.{goodMoves}
 use Rattle.statements.specs.Calls.{movesFault}
 use Rattle.decoding.proofs.Asked.{moves-fine}
 use Rattle.promises.proofs.Demands.{of-moves}
+use Rattle.consult.proofs.Consulted.{moves-given}
 use Rattle.consult.proofs.good_moves.Statement.{statement}
 use Rattle.consult.proofs.good_moves.Tie as tie
 
@@ -30,7 +31,9 @@ arrive-requires c κs =
     moves-fine (now (a .book)) (a .state) (a .goal) (now (a .plant)) (accepted-call c) .goal
 
 good-requires : tie.Need-good-requires
-good-requires c κs = search needs
+good-requires c κs =
+    let a = c .before .before .before .before .before .args in
+    moves-given (now (a .plant)) (now (a .book)) (a .state) (a .goal) (accepted-call (c .before))
 
 returns-2 : tie.Need-returns-2
 returns-2 c =

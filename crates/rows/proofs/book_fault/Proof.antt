@@ -20,7 +20,7 @@ returns : tie.Need-returns
 returns c = sym (fault-4 _ (sym (c .before .head-ok .ensures) ∙ not-true _ (c .if1 .taken)))
 
 rows-ok-requires : tie.Need-rows-ok-requires
-rows-ok-requires c κs = search needs
+rows-ok-requires c κs = head c
 
 returns-2 : tie.Need-returns-2
 returns-2 c =

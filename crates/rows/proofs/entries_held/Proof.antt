@@ -1,29 +1,28 @@
--- `rows::entries_held` meets its contract. The loop's invariant: `at` is the place of the goal's entry, and the
--- entries from there on stand for the whole row. Assumes nothing.
+-- `rows::entries_held` meets its contract. The loop's invariant: `at` is the place of the goal's entry, and what is
+-- gathered so far and the entries from there on stand for the whole row. Assumes nothing.
 use denote.Ref.{now}
-use mathlib.Core.Path.{sym, _∙_}
+use mathlib.Core.Path.{refl}
 use Prim.Native.Nat.{_-_}
 use native.Mathlib.Omega.{arith}
 use borrow.Author.Needs.{needs}
-use borrow.Author.Tests.{not-true, not-false}
 use Rattle.statements.specs.Books.{bookMoves, bookGoals}
-use Rattle.rows.specs.Checks.{heldAt, entryIn, entriesHeld}
-use Rattle.rows.proofs.Rows.{RowLeft, held-row, row-start, row-pass, row-fail, row-end}
+use Rattle.format.proofs.Words.{power}
+use Rattle.rows.specs.Checks.{entryIn, entriesHeld}
+use Rattle.rows.proofs.Rows.{head-given, entries-within, held-row}
+use Rattle.rows.proofs.Gathered.{gathered, EntriesLeft, entries-start, entries-more, entries-end}
 use Rattle.rows.proofs.entries_held.Statement.{statement}
 use Rattle.rows.proofs.entries_held.Tie as tie
 
 abbrev Inv-loop : tie.InvT-loop
-Inv-loop book stages state goals moves mask at₀ goal₀ at goal =
-    RowLeft (heldAt book moves mask) goals (entryIn stages book state 0) (entriesHeld stages book state) at goal
+Inv-loop book stages state goals mask at₀ waits₀ moves₀ set₀ goal₀ at waits moves set goal =
+    EntriesLeft book (bookMoves book) mask goals (entryIn stages book state 0) (entriesHeld stages book state) at goal
+    waits moves set
 
 abbrev μ-loop : tie.MeasureT-loop
-μ-loop book stages state goals moves mask at₀ goal₀ at goal = goals - goal
+μ-loop book stages state goals mask at₀ waits₀ moves₀ set₀ goal₀ at waits moves set goal = goals - goal
 
 number-requires : tie.Need-number-requires Inv-loop μ-loop
 number-requires c κs = search needs
-
-number-requires-2 : tie.Need-number-requires-2 Inv-loop μ-loop
-number-requires-2 c κs = search needs
 
 mask-requires : tie.Need-mask-requires Inv-loop μ-loop
 mask-requires c κs = search needs
@@ -34,19 +33,31 @@ entry-in-requires c κs = search needs
 loop-holds : tie.Need-loop-holds Inv-loop μ-loop
 unfolding bookGoals bookMoves
 loop-holds c =
-    let a = c .before .before .before .before .before .args in
-    let n = c .before .before .before .number .ensures in
-    row-start (heldAt (now (a .book)) _ _) (omega arith) (omega (arith, c .entry-in .ensures)) (c .entry-in .ensures .0)
-    (held-row (a .stages) (now (a .book)) (a .state) _ _ _ n (c .before .before .number2 .ensures) (c .before .mask .ensures))
+    let start = c .before .before .before .before in
+    let a = start .args in
+    let b = now (a .book) in
+    let head = head-given b (start .pre .0) in
+    let n = c .before .before .number .ensures in
+    let m = c .before .mask .ensures in
+    entries-start
+    (omega (arith, n, entries-within b (a .state) (a .stages) (start .pre .1 .0) head (start .pre .1 .1)))
+    (omega arith) (rw m (head .mask-ok)) (c .entry-in .ensures .0)
+    (held-row (a .stages) b (a .state) _ _ _ n refl m)
 
-entry-held-requires : tie.Need-entry-held-requires Inv-loop μ-loop
-entry-held-requires c κs = omega arith
+add-word-in : tie.Need-add-word-in Inv-loop μ-loop
+add-word-in c = omega arith
 
-returns : tie.Need-returns Inv-loop μ-loop
-returns c =
-    let turn = c .before .before in
-    let failed = sym (c .before .entry-held .ensures) ∙ not-true _ (c .if1 .taken) in
-    sym (row-fail (turn .before .loop .inv) (turn .loop-test .taken) failed)
+word-in-requires : tie.Need-word-in-requires Inv-loop μ-loop
+word-in-requires c κs = omega arith
+
+word-in-requires-2 : tie.Need-word-in-requires-2 Inv-loop μ-loop
+word-in-requires-2 c κs = omega arith
+
+cast-set : tie.Need-cast-set Inv-loop μ-loop
+cast-set c = omega arith
+
+shl-set : tie.Need-shl-set Inv-loop μ-loop
+shl-set c = omega arith
 
 add-at : tie.Need-add-at Inv-loop μ-loop
 add-at c = omega arith
@@ -60,11 +71,12 @@ loop-less c = omega arith
 loop-again : tie.Need-loop-again Inv-loop μ-loop
 loop-again c =
     let turn = c .before .before in
-    let passed = sym (c .before .entry-held .ensures) ∙ not-false _ (c .if1 .left) in
-    row-pass (turn .before .loop .inv) (turn .loop-test .taken) passed
+    entries-more (turn .before .loop .inv) (turn .loop-test .taken) (c .word-in2 .ensures) (c .before .word-in .ensures)
+    (power _ (omega arith))
 
-returns-2 : tie.Need-returns-2 Inv-loop μ-loop
-returns-2 c = sym (row-end (c .before .loop .inv) (c .loop-test .left))
+returns : tie.Need-returns Inv-loop μ-loop
+unfolding gathered
+returns c = entries-end (c .before .loop .inv) (c .loop-test .left)
 
 pub entries-held-spec : {M : Type 1} → statement M
 entries-held-spec =
@@ -73,14 +85,16 @@ entries-held-spec =
     Inv-loop
     μ-loop
     number-requires
-    number-requires-2
     mask-requires
     entry-in-requires
     loop-holds
-    entry-held-requires
-    returns
+    add-word-in
+    word-in-requires
+    word-in-requires-2
+    cast-set
+    shl-set
     add-at
     add-goal
     loop-less
     loop-again
-    returns-2)
+    returns)

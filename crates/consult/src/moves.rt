@@ -1,5 +1,5 @@
-// Every good move: those of a book's mask that meet the rule of the entry of a state and a goal, read off the plant's
-// arrows and the book's own rows. Nothing here trusts a lent byte: plant and book may be any bytes.
+// Every good move: those of a book's mask that meet the rule of the entry of a state and a goal, read off the state's
+// arrows in an accepted plant and the book's own rows.
 use format::arrows::from_at;
 use format::arrows::read;
 use format::word::bit_at;
@@ -10,9 +10,10 @@ use rows::stage_at;
 use rows::staged;
 use rows::wait_at;
 ghost use mathlib.Core.Path.{_≡_};
-ghost use Rattle.statements.specs.Plants.{plantOf, movesInto};
+ghost use Prim.Native.Nat.{_<_};
+ghost use Rattle.statements.specs.Plants.{plantOf, movesInto, plantFault};
 ghost use Rattle.statements.specs.Books.{bookMask, goodMoves};
-ghost use Rattle.moves.specs.Checks.{nearerThan, leadsIn};
+ghost use Rattle.consult.specs.Checks.{nearerThan, leadsIn, Begins};
 
 // The end of an arrow is a state that the book keeps, of an earlier stage; or, unless only these count, of the stage
 // given and above wait 0 with a smaller wait for the goal. Without stages all are of one.
@@ -27,9 +28,29 @@ fn nearer(book: &[u8], stage: u16, wait: u16, goal: u32, early: bool, end: u32) 
     !is_lost(book, end) & ((there < stage) | (!early & ((there == stage) & less)))
 }
 
-// The moves of the book's mask with an arrow in a state, all of whose arrows end in earlier stages, or where the rule of
-// the entry allows, as a mask.
+// The first arrow of a plant that starts in a state or past it, by bisection: the arrows of an accepted plant ascend.
+fn first_from(plant: &[u8], state: u32) -> u16
+    requires { ⌜ plantFault (now plant) ≡ 0 ⌝ }
+    ensures { λ r. ⌜ Begins (now (plant .entry)) state r ⌝ }
+{
+    let mut low: u16 = 0;
+    let mut high = number(plant, 3);
+    while low < high {
+        let mid = low + (high - low) / 2;
+        if (from_at(plant, mid) as u32) < state {
+            low = mid + 1;
+        } else {
+            high = mid;
+        }
+    }
+    low
+}
+
+// The moves of the book's mask with an arrow in a state, all of whose arrows end in earlier stages, or where the rule
+// of the entry allows, as a mask. The state's arrows stand together in an accepted plant.
 fn moves_into(plant: &[u8], book: &[u8], state: u32, goal: u32, early: bool) -> u32
+    requires fine { ⌜ plantFault (now plant) ≡ 0 ⌝ }
+    requires within { ⌜ state < plantOf (now plant) .states ⌝ }
     ensures { λ r. ⌜ r ≡ movesInto (plantOf (now (plant .entry))) (bookMask (now (book .entry)))
         (leadsIn (now (book .entry)) early state goal) state ⌝ }
 {
@@ -37,17 +58,13 @@ fn moves_into(plant: &[u8], book: &[u8], state: u32, goal: u32, early: bool) -> 
     let in_service = mask(book);
     let moves = number(plant, 1);
     let wait = wait_at(book, state, goal);
-    let count = number(plant, 3);
+    let last = first_from(plant, state + 1);
     let mut seen: u32 = 0;
     let mut bad: u32 = 0;
-    let mut k: u16 = 0;
-    while k < count {
-        let place = k;
+    let mut k = first_from(plant, state);
+    while k < last {
+        let arrow = read(plant, k);
         k += 1;
-        if (from_at(plant, place) as u32) != state {
-            continue;
-        }
-        let arrow = read(plant, place);
         if !((arrow.action < moves) & bit_at(in_service, arrow.action as u32)) {
             continue;
         }
@@ -64,7 +81,9 @@ fn moves_into(plant: &[u8], book: &[u8], state: u32, goal: u32, early: bool) -> 
 // All moves that meet the rule of an entry, as a mask: those of the book's mask with an arrow in the state, all of
 // whose arrows end in states that the book keeps, of earlier stages if there is such a move; otherwise of no later one,
 // above wait 0 of an earlier stage or with a smaller wait. 0 for a lost state.
-pub fn good(plant: &[u8], book: &[u8], state: u32, goal: u32) -> u32
+pub(crate) fn good(plant: &[u8], book: &[u8], state: u32, goal: u32) -> u32
+    requires fine { ⌜ plantFault (now plant) ≡ 0 ⌝ }
+    requires within { ⌜ state < plantOf (now plant) .states ⌝ }
     ensures { λ r. ⌜ r ≡ goodMoves (plantOf (now (plant .entry))) (now (book .entry)) state goal ⌝ }
 {
     if is_lost(book, state) {

@@ -1,11 +1,13 @@
--- Where a move may lead, by a part of the rule of an entry, and the test of the end of an arrow, which only functions
--- inside this crate promise.
+-- Where a move may lead, by a part of the rule of an entry, the test of the end of an arrow, and where the arrows of a
+-- state begin, which only functions inside this crate promise.
 use mathlib.Core.Bool.{Bool, _&&_, _||_, not}
 use mathlib.Core.List.{List}
-use Prim.Native.Nat.{ℕ}
+use Prim.Native.Nat.{ℕ, _≤_, _<_}
 use lib.Dec.{eqb, ltb}
 use Rattle.statements.specs.Sets.{filter}
+use Rattle.statements.specs.Plants.{word}
 use Rattle.statements.specs.Books.{bookStates, stageAt, waitAt, isLost, bookKept}
+use Rattle.format.specs.Arrows.{arrowIn}
 
 -- state y is of an earlier stage than the one given, or, unless only these count, of that stage and above wait 0 with a
 -- smaller wait for goal i
@@ -20,3 +22,9 @@ nearerThan b stage wait i early y = ltb y (bookStates b) && (not (isLost b y) &&
 -- the states of earlier stages than that of state x, or those of the rule of its entry for goal i
 unfoldable pub leadsIn : List ℕ → Bool → ℕ → ℕ → List ℕ
 leadsIn b early x i = filter (closer b (stageAt b x) (waitAt b x i) i early) (bookKept b)
+
+-- the arrows of a plant before arrow k start before state x, and those from it on start there or past it
+pub record Begins (s : List ℕ) (x k : ℕ) : Type 0 where
+  pub within : k ≤ word 3 s
+  pub before : (j : ℕ) → j < k → arrowIn s j .from < x
+  pub after : (j : ℕ) → k ≤ j → j < word 3 s → x ≤ arrowIn s j .from

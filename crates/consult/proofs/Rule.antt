@@ -16,7 +16,7 @@ use Rattle.sets.proofs.Tests.{decided, not-both, and-true, and-left, and-right,
 use Rattle.sets.proofs.Members.{filter-holds, filter-in, filter-same, numbers-holds, numbers-in}
 use Rattle.sets.proofs.First.{first-holds, first-before}
 use Rattle.sets.proofs.Bits.{bit-none, bits-at, bits-past, all-bits, lowest-bits}
-use Rattle.moves.specs.Checks.{closer, nearerThan, leadsIn}
+use Rattle.consult.specs.Checks.{closer, nearerThan, leadsIn}
 
 -- the test of a number past the last state, and of a state
 module _ (b : List ℕ) (stage wait i : ℕ) (early : Bool) (y : ℕ) where
@@ -86,7 +86,9 @@ module _ (p : Plant) (mask : ℕ) (ys : List ℕ) (x : ℕ) where
       let past = ltb-false (first (p .moves) 0 Goes) (p .moves) c in
       absurd (d (all-bits (bits (p .moves) 0 Goes) 0
       (λ u. elim (decLt u (p .moves)) [
-        | yes l ↦ bits-at Goes (p .moves) u l ∙ first-before (p .moves) 0 Goes u (omega arith) (omega arith) ∙ sym (bit-none u)
+        | yes l ↦
+            bits-at Goes (p .moves) u l ∙ first-before (p .moves) 0 Goes u (omega arith) (omega arith)
+            ∙ sym (bit-none u)
         | no l ↦ bits-past Goes (p .moves) 0 u (omega arith) ∙ sym (bit-none u)
       ]))))
       (decided (ltb (first (p .moves) 0 Goes) (p .moves)))

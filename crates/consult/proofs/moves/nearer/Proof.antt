@@ -1,4 +1,5 @@
--- `moves::nearer` meets its contract: a number past the last state fails, and a state goes by its row. Assumes nothing.
+-- `consult::moves::nearer` meets its contract: a number past the last state fails, and a state goes by its row. Assumes
+-- nothing.
 use denote.Ref.{now}
 use mathlib.Core.Path.{sym, ap₂, _∙_}
 use mathlib.Core.Bool.{Bool, _&&_, _||_, not}
@@ -6,10 +7,10 @@ use Prim.Native.Nat.{ℕ}
 use native.Mathlib.Omega.{arith}
 use lib.Dec.{eqb, ltb}
 use Rattle.statements.specs.Books.{bookStates}
-use Rattle.moves.proofs.Rule.{nearer-past, nearer-state}
+use Rattle.consult.proofs.Rule.{nearer-past, nearer-state}
 use borrow.Author.Needs.{needs}
-use Rattle.moves.proofs.nearer.Statement.{statement}
-use Rattle.moves.proofs.nearer.Tie as tie
+use Rattle.consult.proofs.moves.nearer.Statement.{statement}
+use Rattle.consult.proofs.moves.nearer.Tie as tie
 
 number-requires : tie.Need-number-requires
 number-requires c κs = search needs

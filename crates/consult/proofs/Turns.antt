@@ -1,12 +1,14 @@
 -- The pass over a plant's arrows: the moves seen so far, those of them with an arrow that leads elsewhere, and what the
 -- arrows left say of the rest. Assumes nothing.
-use mathlib.Core.Path.{_≡_, refl, sym, _∙_}
+use mathlib.Core.Path.{_≡_, refl, sym, ap, _∙_, subst}
 use mathlib.Core.Logic.{inl, inr, ⊎-elim}
 use mathlib.Core.Bool.{Bool, true, false, _&&_, _||_, not, or-true, or-false}
 use mathlib.Core.Bool.{and-true as and-yes}
 use mathlib.Core.List.{List, [], _∷_}
-use Prim.Native.Nat.{ℕ, _+_, _^_, _≤_, _<_}
+use Prim.Native.Nat.{ℕ, zero, suc, _+_, _-_, _^_, _≤_, _<_}
+use native.Mathlib.Nat.{add-zero, zero-add}
 use native.Mathlib.Omega.{arith}
+use native.Mathlib.Decide.{decLt}
 use lib.Bits.{bitOr, or-lt}
 use lib.Dec.{eqb, ltb, leb}
 use lib.ListN.{length}
@@ -22,6 +24,7 @@ use Rattle.format.specs.declared.arrows.Arrow.{Arrow as ReadArrow}
 use Rattle.format.specs.Arrows.{arrowIn, arrowsLeft}
 use Rattle.format.proofs.Stored.{asArrow, left-more, left-none, ends-nil, ends-match, ends-from, ends-move}
 use Rattle.format.proofs.Words.{no-bit}
+use Rattle.consult.specs.Checks.{Begins}
 
 -- a plant has a move, and it is in the mask
 abbrev pub ofMask : Plant → ℕ → ℕ → Bool
@@ -68,7 +71,7 @@ module _ (m v u : ℕ) where
   added-this e = added ∙ rw (eq-eqb u m (sym e), or-true)
 
 -- before the first arrow
-pub tried-start : (s : List ℕ) (mask x : ℕ) (ys : List ℕ) → mask < 2 ^ 32 → Tried s mask x ys 0 0 0
+tried-start : (s : List ℕ) (mask x : ℕ) (ys : List ℕ) → mask < 2 ^ 32 → Tried s mask x ys 0 0 0
 unfolding goesInto available ends arrowsLeft meets
 tried-start s mask x ys few =
     record {
@@ -110,7 +113,7 @@ module _ {s : List ℕ} {mask x : ℕ} {ys : List ℕ} {k seen bad : ℕ} {a : R
       }
 
   -- it is another state's, or its move is not of the mask
-  pub tried-state : (a .from ≡ x → ⊥) → Tried s mask x ys (k + 1) seen bad
+  tried-state : (a .from ≡ x → ⊥) → Tried s mask x ys (k + 1) seen bad
   tried-state d = passed-over (λ u v. ends-from (asArrow a) (arrowsLeft s (k + 1)) x u d)
 
   pub tried-move : ofMask (plantOf s) mask (a .action) ≡ false → Tried s mask x ys (k + 1) seen bad
@@ -162,6 +165,26 @@ module _ {s : List ℕ} {mask x : ℕ} {ys : List ℕ} {k seen bad : ℕ} {a : R
         seen-now (bitOr bad (2 ^ a .action)) (added-other (a .action) bad)
         (added-this (a .action) bad (a .action) refl ∙ rw (e, or-true))
 
+-- arrows of other states change nothing
+tried-over : {s : List ℕ} {mask x : ℕ} {ys : List ℕ} {seen bad : ℕ} (k n : ℕ) → Tried s mask x ys k seen bad
+    → k + n ≤ word 3 s → ((j : ℕ) → k ≤ j → j < k + n → arrowIn s j .from ≡ x → ⊥)
+    → Tried s mask x ys (k + n) seen bad
+tried-over k zero t h others = rw (add-zero k) t
+tried-over {s} {mask} {x} {ys} {seen} {bad} k (suc n) t h others =
+    let next : k + 1 + n ≡ k + suc n = omega arith in
+    subst (λ (m : ℕ). Tried s mask x ys m seen bad) next
+    (tried-over (k + 1) n
+    (tried-state (record { so-far = t; read = refl; more = omega arith }) (others k (omega arith) (omega arith)))
+    (omega arith) (λ j low high. others j (omega arith) (omega arith)))
+
+-- so a state's arrows alone are tried, from its first
+tried-first : {s : List ℕ} {mask x : ℕ} {ys : List ℕ} {k : ℕ} → mask < 2 ^ 32 → Begins s x k
+    → Tried s mask x ys k 0 0
+tried-first {s} {mask} {x} {ys} {k} few b =
+    subst (λ (m : ℕ). Tried s mask x ys m 0 0) (zero-add k)
+    (tried-over 0 k (tried-start s mask x ys few) (omega (arith, b .within))
+    (λ j low high e. omega (arith, b .before j (omega arith), e)))
+
 -- past the last arrow: the moves seen that did not lead elsewhere
 module _ {s : List ℕ} {mask x : ℕ} {ys : List ℕ} {k seen bad : ℕ} (t : Tried s mask x ys k seen bad)
     (none : word 3 s ≤ k) where
@@ -193,7 +216,7 @@ module _ {s : List ℕ} {mask x : ℕ} {ys : List ℕ} {k seen bad : ℕ} (t : T
             end-off u (rw past) ∙ sym (bits-past (goesInto p mask ys x) (p .moves) 0 u (ltb-false u (p .moves) past))
       ]
 
-  pub tried-end : lessMask seen bad ≡ movesInto (plantOf s) mask ys x
+  tried-end : lessMask seen bad ≡ movesInto (plantOf s) mask ys x
   unfolding movesInto lessMask
   tried-end =
       let p = plantOf s in
@@ -203,3 +226,48 @@ module _ {s : List ℕ} {mask x : ℕ} {ys : List ℕ} {k seen bad : ℕ} (t : T
       (omega (arith, t .seen-few))
       (omega (arith, bits-below (goesInto p mask ys x) (p .moves) 0))
       (λ u _. end-bit u)
+
+-- the loop over a state's arrows: those from arrow k up to the last are all its own, and those before are tried
+pub record Turn (s : List ℕ) (mask x : ℕ) (ys : List ℕ) (last k seen bad : ℕ) : Type 0 where
+  pub own : (j : ℕ) → k ≤ j → j < last → arrowIn s j .from ≡ x
+  pub past : Begins s (x + 1) last
+  pub order : k ≤ last
+  pub so-far : Tried s mask x ys k seen bad
+
+-- before the first of them
+pub turn-start : {s : List ℕ} {mask x k last : ℕ} {ys : List ℕ} → mask < 2 ^ 32 → Begins s x k → Begins s (x + 1) last
+    → Turn s mask x ys last k 0 0
+turn-start {s} {mask} {x} {k} {last} few b e =
+    record {
+      own = λ j low high.
+          omega (arith, b .after j low (omega (arith, e .within)), e .before j high);
+      past = e;
+      order =
+          elim (decLt last k) [
+            | yes h ↦ absurd (omega (arith, b .before last h, e .after last (omega arith) (omega (arith, b .within))))
+            | no h ↦ omega arith
+          ];
+      so-far = tried-first few b;
+    }
+
+module _ {s : List ℕ} {mask x last k seen bad : ℕ} {ys : List ℕ} (t : Turn s mask x ys last k seen bad) where
+  -- the next one is there, and the turn is over once it is tried
+  pub turn-here : {a : ReadArrow} → k < last → a ≡ arrowIn s k → Here s mask x ys k seen bad a
+  turn-here h e = record { so-far = t .so-far; read = e; more = omega (arith, t .past .within) }
+
+  pub turn-own : {a : ReadArrow} → k < last → a ≡ arrowIn s k → a .from ≡ x
+  turn-own h e = ap (λ (r : ReadArrow). r .from) e ∙ t .own k (omega arith) h
+
+  pub turn-next : {seen′ bad′ : ℕ} → k < last → Tried s mask x ys (k + 1) seen′ bad′
+      → Turn s mask x ys last (k + 1) seen′ bad′
+  turn-next h next =
+      record { own = λ j low high. t .own j (omega arith) high; past = t .past; order = omega arith; so-far = next }
+
+  -- after the last of them: the others are of later states
+  pub turn-end : last ≤ k → lessMask seen bad ≡ movesInto (plantOf s) mask ys x
+  turn-end h =
+      let all : k + (word 3 s - k) ≡ word 3 s = omega (arith, t .past .within, t .order) in
+      tried-end
+      (tried-over k (word 3 s - k) (t .so-far) (omega arith)
+      (λ j low high e. omega (arith, t .past .after j (omega (arith, t .order)) (omega arith), e)))
+      (omega arith)

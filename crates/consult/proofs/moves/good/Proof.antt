@@ -1,13 +1,13 @@
--- `moves::good` meets its contract: 0 for a lost state; the moves into earlier stages, if there are stages and such moves;
--- and otherwise all moves that meet the rule. Assumes nothing.
+-- `consult::moves::good` meets its contract: 0 for a lost state; the moves into earlier stages, if there are stages and
+-- such moves; and otherwise all moves that meet the rule. Assumes nothing.
 use denote.Ref.{now}
 use mathlib.Core.Path.{sym, _∙_}
 use mathlib.Core.Logic.{⊎-elim}
 use Rattle.statements.specs.Plants.{plantOf}
-use Rattle.moves.proofs.Rule.{good-lost, good-plain, good-early, good-onward}
+use Rattle.consult.proofs.Rule.{good-lost, good-plain, good-early, good-onward}
 use borrow.Author.Needs.{needs}
-use Rattle.moves.proofs.good.Statement.{statement}
-use Rattle.moves.proofs.good.Tie as tie
+use Rattle.consult.proofs.moves.good.Statement.{statement}
+use Rattle.consult.proofs.moves.good.Tie as tie
 
 is-lost-requires : tie.Need-is-lost-requires
 is-lost-requires c κs = search needs

@@ -1,2 +1,0 @@
--- Definitions that contracts inside this crate cite.
-pub mod Checks
