@@ -1,5 +1,5 @@
 -- The header of a plant: what a good one says of the counts and the length. Assumes nothing.
-use mathlib.Core.Path.{_≡_, sym, ap, ap₂, _∙_}
+use mathlib.Core.Path.{_≡_, refl, sym, ap, ap₂, _∙_}
 use mathlib.Core.Bool.{Bool, true, false}
 use mathlib.Core.List.{List}
 use Prim.Native.Nat.{ℕ, _+_, _*_, _≤_}
@@ -9,6 +9,15 @@ use Rattle.statements.specs.Plants.{word, plantOf, headOk}
 use Rattle.statements.specs.Books.{bookLong}
 use Rattle.sets.proofs.Tests.{and-iff, leb-iff, eqb-iff}
 use Rattle.decoding.proofs.Sizes.{Sizes}
+
+-- the numbers of states and of moves are the first two of a plant's
+pub plant-states : (s : List ℕ) → plantOf s .states ≡ word 0 s
+unfolding plantOf
+plant-states s = refl
+
+pub plant-moves : (s : List ℕ) → plantOf s .moves ≡ word 1 s
+unfolding plantOf
+plant-moves s = refl
 
 -- what a good header says of a plant
 pub record PlantHead (s : List ℕ) : Type 0 where

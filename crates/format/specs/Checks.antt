@@ -1,4 +1,4 @@
--- Parts of the check of a plant, which only functions inside this crate promise: its labels and its arrows.
+-- Parts of the check of a plant: its labels, its arrows, and one arrow after another.
 use mathlib.Core.Bool.{Bool, _&&_}
 use Prim.Native.Nat.{ℕ, _+_, _*_}
 use lib.Dec.{ltb, leb}

@@ -8,7 +8,7 @@ use crate::word::number;
 use crate::word::word_at;
 use crate::word::word_in;
 ghost use mathlib.Core.Path.{_≡_};
-ghost use mathlib.Core.Bool.{true};
+ghost use mathlib.Core.Bool.{true, _&&_};
 ghost use Prim.Native.Nat.{_+_, _-_, _*_, _≤_};
 ghost use lib.Bits.{bitAnd};
 ghost use lib.ListN.{length, getD, drop};
@@ -91,7 +91,7 @@ fn rank_of(from: u16, action: u16, to: u16) -> u64
 }
 
 // The least rank that the arrow after this one may have; 0 if this one is out of range or its rank is below the least.
-fn least_after(arrow: Arrow, least: u64, states: u16, moves: u16) -> u64
+pub fn least_after(arrow: Arrow, least: u64, states: u16, moves: u16) -> u64
     ensures { λ r. ⌜ r ≡ leastAfter states moves least arrow ⌝ }
 {
     let rank = rank_of(arrow.from, arrow.action, arrow.to);
@@ -131,6 +131,16 @@ pub(crate) fn labels_ok(plant: &[u8]) -> bool
         number(plant, 2) as u32,
         settles(plant),
     )
+}
+
+// The header is good and every label is in range: all of a plant's check but that of its arrows.
+pub fn before_arrows_ok(plant: &[u8]) -> bool
+    ensures { λ r. ⌜ r ≡ (headOk (now (plant .entry)) && labelsFine (plantOf (now (plant .entry)))) ⌝ }
+{
+    if !head_ok(plant) {
+        return false;
+    }
+    labels_ok(plant)
 }
 
 // Every arrow of a plant with a good header is in range, and the arrows strictly ascend.

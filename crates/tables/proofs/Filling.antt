@@ -22,11 +22,6 @@ use Rattle.sets.proofs.Joined.{joined-split, joined-more}
 use Rattle.tables.proofs.Grouping.{table-few}
 use Rattle.sets.proofs.Over.{sets-append, sets-before, sets-over}
 
--- the number of states is the first of a plant's numbers
-pub plant-states : (s : List ℕ) → plantOf s .states ≡ word 0 s
-unfolding plantOf
-plant-states s = refl
-
 module _ (p : Plant) (mask : ℕ) where
   -- the places of the first n states
   unfoldable pub placesOf : ℕ → List ℕ

@@ -6,7 +6,8 @@ use native.Mathlib.Omega.{arith}
 use lib.ListN.{length-set}
 use borrow.Author.Needs.{needs}
 use Rattle.statements.specs.Plants.{plantOf}
-use Rattle.tables.proofs.Filling.{Filled, plant-states, fill-start, fill-length, fill-most, fill-room}
+use Rattle.format.proofs.Header.{plant-states}
+use Rattle.tables.proofs.Filling.{Filled, fill-start, fill-length, fill-most, fill-room}
 use Rattle.tables.proofs.Filling.{fill-state, fill-end}
 use Rattle.tables.proofs.fill.fill.Statement.{statement}
 use Rattle.tables.proofs.fill.fill.Tie as tie

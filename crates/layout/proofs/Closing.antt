@@ -1,0 +1,124 @@
+-- The layout once the pass is over and the sums are made: how long its lists are, and that each array begins with its
+-- own. Assumes nothing.
+use mathlib.Core.Path.{_≡_, refl, sym, ap, ap₂, _∙_}
+use mathlib.Core.Bool.{Bool, true, false}
+use mathlib.Core.List.{List, [], _∷_, _++_}
+use Prim.Native.Nat.{ℕ, suc, _+_, _≤_, _<_}
+use native.Mathlib.Omega.{arith}
+use lib.ListN.{length, take, set, replicate, length-append, length-replicate}
+use lib.Seq.{take-suc-set}
+use Rattle.statements.specs.Sets.{pick}
+use Rattle.statements.specs.Plants.{Plant, ends, available}
+use Rattle.sets.proofs.Joined.{joined-length}
+use Rattle.layout.specs.Layout.{partOf, partsOf, allParts, groupStates, groupMoves, groupEnds, groupSizes}
+use Rattle.layout.specs.Layout.{groupCounts, total, starts, bounds, numbered, groupBegins, firstGroups}
+use Rattle.layout.specs.Layout.{groupOwners, Front, Layout}
+use Rattle.layout.specs.Passing.{Laid}
+use Rattle.layout.proofs.Lengths.{starts-length}
+use Rattle.layout.proofs.Joining.{joined-total, joined-long}
+
+pick-total : (b : Bool) (ys : List ℕ) → total (pick b (length ys ∷ []) []) ≡ length (pick b ys [])
+unfolding total
+pick-total true ys = omega arith
+pick-total false ys = refl
+
+pick-long : (b : Bool) (i j : ℕ) → length (pick b (i ∷ []) []) ≡ length (pick b (j ∷ []) [])
+pick-long true i j = refl
+pick-long false i j = refl
+
+module _ (p : Plant) (mask : ℕ) where
+  -- as many ends as the sizes say
+  ends-length : length (groupEnds p mask) ≡ total (groupSizes p mask)
+  unfolding groupEnds groupSizes allParts partsOf partOf
+  ends-length =
+      sym (joined-total (partsOf p mask (λ x u ys. length ys ∷ [])) (partsOf p mask (λ x u ys. ys))
+      (λ x. joined-total (partOf p mask (λ x u ys. length ys ∷ []) x) (partOf p mask (λ x u ys. ys) x)
+      (λ u. pick-total (available p mask x u) (ends p x u)) (p .moves) 0) (p .states) 0)
+
+  -- as many groups as the states have
+  pub counts-total : total (groupCounts p mask) ≡ length (groupMoves p mask)
+  unfolding groupCounts groupMoves allParts total
+  counts-total =
+      joined-total (λ x. length (partsOf p mask (λ y u ys. u ∷ []) x) ∷ []) (partsOf p mask (λ x u ys. u ∷ []))
+      (λ x. omega arith) (p .states) 0
+
+  -- a state, a move and a size for each
+  states-length : length (groupStates p mask) ≡ length (groupSizes p mask)
+  unfolding groupStates groupSizes allParts partsOf partOf
+  states-length =
+      joined-long (partsOf p mask (λ x u ys. x ∷ [])) (partsOf p mask (λ x u ys. length ys ∷ []))
+      (λ x. joined-long (partOf p mask (λ x u ys. x ∷ []) x) (partOf p mask (λ x u ys. length ys ∷ []) x)
+      (λ u. pick-long (available p mask x u) x (length (ends p x u))) (p .moves) 0) (p .states) 0
+
+  moves-length : length (groupMoves p mask) ≡ length (groupSizes p mask)
+  unfolding groupMoves groupSizes allParts partsOf partOf
+  moves-length =
+      joined-long (partsOf p mask (λ x u ys. u ∷ [])) (partsOf p mask (λ x u ys. length ys ∷ []))
+      (λ x. joined-long (partOf p mask (λ x u ys. u ∷ []) x) (partOf p mask (λ x u ys. length ys ∷ []) x)
+      (λ u. pick-long (available p mask x u) u (length (ends p x u))) (p .moves) 0) (p .states) 0
+
+  counts-length : length (groupCounts p mask) ≡ p .states
+  unfolding groupCounts
+  counts-length =
+      joined-length (λ x. length (partsOf p mask (λ y u ys. u ∷ []) x) ∷ []) 1 (λ _. refl) (p .states) 0 ∙ omega arith
+
+-- one number more than there are parts
+bounds-length : (ns : List ℕ) → length (bounds ns) ≡ suc (length ns)
+unfolding bounds
+bounds-length ns = omega (arith, length-append (starts 0 ns) (total ns ∷ []), starts-length 0 ns)
+
+-- as many numbers as the parts have
+numbered-length : (k : ℕ) (ns : List ℕ) → length (numbered k ns) ≡ total ns
+unfolding numbered total
+numbered-length k [] = refl
+numbered-length k (n ∷ ns) =
+    length-append (replicate n k) (numbered (suc k) ns)
+    ∙ ap₂ (λ (i j : ℕ). i + j) (length-replicate n k) (numbered-length (suc k) ns)
+
+-- a list begins with what its first numbers are
+front : (ys xs : List ℕ) (n : ℕ) → length xs ≡ n → take n ys ≡ xs → Front xs ys
+front ys xs n e h = rw e h
+
+module _ {p : Plant} {mask g n : ℕ} {first states moves begins ends owners : List ℕ}
+    (l : Laid p mask g n first states moves begins ends owners) where
+  pub groups-count : g ≡ length (groupStates p mask)
+  groups-count = l .groups-are ∙ sym (states-length p mask)
+
+  pub arrows-count : n ≡ length (groupEnds p mask)
+  arrows-count = l .arrows-are ∙ sym (ends-length p mask)
+
+  -- the sum of the groups of all states
+  pub count-sum : total (take (p .states) first) ≤ length (p .arrows)
+  count-sum =
+      omega (
+        arith,
+        ap total (l .counts-are),
+        counts-total p mask,
+        moves-length p mask,
+        l .groups-are,
+        l .groups-few,
+      )
+
+  -- with the sums made, and the last end's place stored, it is the layout
+  pub closed : g < length begins → (m : ℕ) → m ≡ p .states → {first′ begins′ : List ℕ}
+      → take (suc m) first′ ≡ bounds (take m first) → begins′ ≡ set begins g n
+      → Layout p mask first′ states moves begins′ ends owners
+  unfolding firstGroups groupBegins groupOwners bounds
+  closed room m same {first′} {begins′} e b =
+      let counts = groupCounts p mask in
+      let sizes = groupSizes p mask in
+      record {
+        first-is =
+            front first′ (bounds counts) (suc (p .states))
+            (bounds-length counts ∙ ap suc (counts-length p mask)) (rw same at e ∙ ap bounds (l .counts-are));
+        states-is = front states (groupStates p mask) g (sym groups-count) (l .states-are);
+        moves-is = front moves (groupMoves p mask) g (moves-length p mask ∙ sym (l .groups-are)) (l .moves-are);
+        begins-is =
+            front begins′ (bounds sizes) (suc g) (bounds-length sizes ∙ ap suc (sym (l .groups-are)))
+            (ap (take (suc g)) b
+            ∙ take-suc-set begins g n room
+            ∙ ap₂ (λ (k : List ℕ) (i : ℕ). k ++ (i ∷ [])) (l .begins-are) (l .arrows-are));
+        ends-is = front ends (groupEnds p mask) n (sym arrows-count) (l .ends-are);
+        owners-is =
+            front owners (numbered 0 sizes) n (numbered-length 0 sizes ∙ sym (l .arrows-are)) (l .owners-are);
+      }

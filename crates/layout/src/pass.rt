@@ -1,0 +1,137 @@
+// The pass over a plant's arrows: each is checked, and laid out where its move is in service. What begins a group is
+// written for every arrow at the place of the next group, and stays where that many groups are counted.
+use crate::Loaded;
+use format::arrows::Arrow;
+use format::arrows::arrow_at;
+use format::plant::least_after;
+use format::word::bit_at;
+use format::word::number;
+ghost use mathlib.Core.Path.{_≡_};
+ghost use mathlib.Core.Bool.{true, false};
+ghost use Prim.Native.Nat.{_+_, _*_, _<_};
+ghost use lib.Dec.{leb};
+ghost use lib.ListN.{length, getD, set, take, replicate};
+ghost use Rattle.statements.specs.Sets.{pick, bit};
+ghost use Rattle.statements.specs.Plants.{word, plantOf, headOk};
+ghost use Rattle.format.specs.Checks.{arrowsFine};
+ghost use Rattle.layout.specs.Layout.{roomy};
+ghost use Rattle.layout.specs.Passing.{Laid};
+
+// 1 for a move in service, and otherwise 0.
+fn serves(mask: u32, action: u16) -> u16
+    ensures { λ r. ⌜ r ≡ pick (bit action mask) 1 0 ⌝ }
+{
+    if bit_at(mask, action as u32) {
+        return 1;
+    }
+    0
+}
+
+// The number given where no arrow of the state and the move came before: all ranks so far are below `least`. Else 0.
+fn opens(arrow: Arrow, least: u64, on: u16) -> u16
+    ensures { λ r. ⌜ r ≡ pick (leb least (65536 * (65536 * arrow .from) + 65536 * arrow .action)) on 0 ⌝ }
+{
+    if least <= 65536 * (65536 * (arrow.from as u64)) + 65536 * (arrow.action as u64) {
+        return on;
+    }
+    0
+}
+
+// Writes what begins a group at its place: state, move, and the place of its first end.
+fn open(
+    states: &mut [u16],
+    moves: &mut [u16],
+    begins: &mut [u16],
+    group: u16,
+    arrow: Arrow,
+    at: u16,
+)
+    requires state { ⌜ group < length (now states) ⌝ }
+    requires action { ⌜ group < length (now moves) ⌝ }
+    requires begin { ⌜ group < length (now begins) ⌝ }
+    ensures states { λ _. ⌜ now (states .exit) ≡ set (now (states .entry)) group (arrow .from) ⌝ }
+    ensures moves { λ _. ⌜ now (moves .exit) ≡ set (now (moves .entry)) group (arrow .action) ⌝ }
+    ensures begins { λ _. ⌜ now (begins .exit) ≡ set (now (begins .entry)) group at ⌝ }
+{
+    let g = group as usize;
+    states[g] = arrow.from;
+    moves[g] = arrow.action;
+    begins[g] = at;
+}
+
+// Writes an end and the group that it is of.
+fn append(ends: &mut [u16], owners: &mut [u16], at: u16, to: u16, owner: u16)
+    requires end { ⌜ at < length (now ends) ⌝ }
+    requires owner { ⌜ at < length (now owners) ⌝ }
+    ensures ends { λ _. ⌜ now (ends .exit) ≡ set (now (ends .entry)) at to ⌝ }
+    ensures owners { λ _. ⌜ now (owners .exit) ≡ set (now (owners .entry)) at owner ⌝ }
+{
+    let a = at as usize;
+    ends[a] = to;
+    owners[a] = owner;
+}
+
+// Adds to the number that stands at a place.
+fn add(first: &mut [u16], at: u16, more: u16)
+    requires room { ⌜ at < length (now first) ⌝ }
+    requires small { ⌜ getD (now first) at 0 + more < 65536 ⌝ }
+    ensures { λ _. ⌜ now (first .exit) ≡ set (now (first .entry)) at (getD (now (first .entry)) at 0 + more) ⌝ }
+{
+    let x = at as usize;
+    first[x] = first[x] + more;
+}
+
+// Lays out the arrows of a plant with a good header, and counts the groups of each state over zeros; refused where an
+// arrow is out of range or does not ascend.
+pub(crate) fn lay(
+    plant: &[u8],
+    mask: u32,
+    first: &mut [u16],
+    states: &mut [u16],
+    moves: &mut [u16],
+    begins: &mut [u16],
+    ends: &mut [u16],
+    owners: &mut [u16],
+) -> Loaded
+    requires head { ⌜ headOk (now plant) ≡ true ⌝ }
+    requires room { ⌜ roomy (now first) (now states) (now moves) (now begins) (now ends) (now owners) ≡ true ⌝ }
+    requires clear { ⌜ take (word 0 (now plant)) (now first) ≡ replicate (word 0 (now plant)) 0 ⌝ }
+    ensures fits { λ r. ⌜ r .fits ≡ arrowsFine (plantOf (now (plant .entry))) ⌝ }
+    ensures refused { λ r. ⌜ (r .fits ≡ false → (r .groups ≡ 0) × (r .arrows ≡ 0)) ⌝ }
+    ensures laid { λ r. ⌜ (r .fits ≡ true → Laid (plantOf (now (plant .entry))) mask (r .groups) (r .arrows)
+        (now (first .exit)) (now (states .exit)) (now (moves .exit)) (now (begins .exit)) (now (ends .exit))
+        (now (owners .exit))) ⌝ }
+{
+    let count = number(plant, 3);
+    let limit = number(plant, 0);
+    let actions = number(plant, 1);
+    let mut k: u16 = 0;
+    let mut least: u64 = 0;
+    let mut groups: u16 = 0;
+    let mut arrows: u16 = 0;
+    while k < count {
+        let arrow = arrow_at(plant, k);
+        let next = least_after(arrow, least, limit, actions);
+        if next == 0 {
+            return Loaded {
+                fits: false,
+                groups: 0,
+                arrows: 0,
+            };
+        }
+        let on = serves(mask, arrow.action);
+        let new = opens(arrow, least, on);
+        open(states, moves, begins, groups, arrow, arrows);
+        append(ends, owners, arrows, arrow.to, groups - (on - new));
+        add(first, arrow.from, new);
+        groups += new;
+        arrows += on;
+        least = next;
+        k += 1;
+    }
+    Loaded {
+        fits: true,
+        groups: groups,
+        arrows: arrows,
+    }
+}
