@@ -55,6 +55,23 @@ impl Model {
         self
     }
 
+    /// The same plant with its states numbered anew, in an order that has nothing to do with where the arrows lead.
+    pub fn shuffled(mut self, random: &mut Random) -> Model {
+        let mut numbers: Vec<u16> = (0..self.states()).collect();
+        for last in (1..numbers.len()).rev() {
+            numbers.swap(last, random.below(last + 1));
+        }
+        let number = |state: u16| usize::from(numbers[usize::from(state)]);
+        let before = self.labels.clone();
+        for (state, label) in (0..).zip(before) {
+            self.labels[number(state)] = label;
+        }
+        for [from, _, to] in &mut self.arrows {
+            (*from, *to) = (number(*from) as u16, number(*to) as u16);
+        }
+        self
+    }
+
     /// The mask with all moves in service.
     pub fn every_move(&self) -> u32 {
         u32::MAX >> (32 - self.moves)
@@ -144,9 +161,7 @@ pub fn longest() -> Model {
     let last = 1023;
     let mut model = empty(last + 1, 32, 8);
     for state in 0..last {
-        for goal in 0..model.goals {
-            set_goal(&mut model, state, goal);
-        }
+        set_every_goal(&mut model, state);
         model.arrows.push([state, 0, state + 1]);
     }
     let busy = MOST_ARROWS as u16 - last;
@@ -166,9 +181,7 @@ pub fn gates() -> Model {
         model.arrows.push([state, moves - 1, if state == 0 { line } else { state - 1 }]);
     }
     for gate in line..1024 {
-        for goal in 0..model.goals {
-            set_goal(&mut model, gate, goal);
-        }
+        set_every_goal(&mut model, gate);
         if gate < 1023 {
             model.arrows.push([gate, 0, gate + 1]);
         }
@@ -184,32 +197,49 @@ pub enum Family {
     Random,
     /// Layers with arrows to the next layer only, the last to the first; each goal is in one layer.
     Layered,
+    /// Such layers with the states numbered in any order, so that no pass over the states in turn follows the arrows.
+    LayeredShuffled,
     /// A ring with goals on one state each, so that waits get as long as they can.
     Ring,
+    /// Such a ring with the states numbered in any order.
+    RingShuffled,
     /// Few moves with many arrows each: about as many in all as a plant may have, from 256 states on.
     Dense,
     /// Every state in the one goal, each with an arrow to the next only, and the last one with a move of its own to
     /// stay: without that move all are lost, one more in each round.
     Chain,
+    /// The chain with eight goals, and every state in all of them: each round has eight goals to force.
+    ChainEight,
     /// Rungs that can be stayed on for ever, each of which has its way to the goals over the one below, and the lowest by
     /// a move of its own: without that move all are lost, one more rung in each round.
     Ladder,
+    /// The ladder with eight goals, and each goal state in all of them.
+    LadderEight,
     /// A ladder beside a ring that stays kept: without the ladder's move many rounds, each with long waits.
     LadderRing,
-    /// A grid with walls, moves in four directions that may slip aside, and goals in the corners.
+    /// A grid with walls (one state in twelve, at random, is not allowed), moves in four directions that may slip
+    /// aside, and goals in the corners.
     Grid,
+    /// Gates of which one dies in each round and a detour from one to the next, beside a line of states with many moves
+    /// each that leads to the detour: many rounds, each with long waits that are all longer than in the round before.
+    Detour,
 }
 
 /// All families.
-pub const FAMILIES: [Family; 8] = [
+pub const FAMILIES: [Family; 13] = [
     Family::Random,
     Family::Layered,
+    Family::LayeredShuffled,
     Family::Ring,
+    Family::RingShuffled,
     Family::Dense,
     Family::Chain,
+    Family::ChainEight,
     Family::Ladder,
+    Family::LadderEight,
     Family::LadderRing,
     Family::Grid,
+    Family::Detour,
 ];
 
 impl Family {
@@ -218,13 +248,33 @@ impl Family {
         match self {
             Family::Random => "random",
             Family::Layered => "layered",
+            Family::LayeredShuffled => "layered-shuffled",
             Family::Ring => "ring",
+            Family::RingShuffled => "ring-shuffled",
             Family::Dense => "dense",
             Family::Chain => "chain",
+            Family::ChainEight => "chain-eight",
             Family::Ladder => "ladder",
+            Family::LadderEight => "ladder-eight",
             Family::LadderRing => "ladder-ring",
             Family::Grid => "grid",
+            Family::Detour => "detour",
         }
+    }
+
+    /// Whether the seed makes a difference.
+    pub fn is_random(self) -> bool {
+        self.build(24, 1) != self.build(24, 2)
+    }
+
+    /// Whether a solver by sweeps may take seconds for one call on its largest plants.
+    pub fn is_slow(self) -> bool {
+        self == Family::Detour
+    }
+
+    /// Of some sizes those that take no such time.
+    pub fn quick_sizes(self, sizes: &[u16]) -> impl Iterator<Item = u16> + '_ {
+        sizes.iter().copied().filter(move |&states| !self.is_slow() || states <= 64)
     }
 
     /// The plant of this family with so many states.
@@ -233,12 +283,17 @@ impl Family {
         match self {
             Family::Random => scattered(states, random),
             Family::Layered => layered(states, random),
+            Family::LayeredShuffled => layered(states, random).shuffled(random),
             Family::Ring => ring(states, random),
+            Family::RingShuffled => ring(states, random).shuffled(random),
             Family::Dense => dense(states, random),
-            Family::Chain => chain(states),
-            Family::Ladder => ladder(states),
+            Family::Chain => chain(states, 1),
+            Family::ChainEight => chain(states, 8),
+            Family::Ladder => ladder(states, 2),
+            Family::LadderEight => ladder(states, 8),
             Family::LadderRing => ladder_ring(states),
             Family::Grid => grid(states, random),
+            Family::Detour => detour(states),
         }
     }
 }
@@ -308,7 +363,7 @@ pub fn slow_stages(stages: u16, tail: u16, path: u16, goals: u16) -> Model {
         let steps = (0..8).map(|action| [state, action, next]);
         model.arrows.extend(steps.take((MOST_ARROWS - model.arrows.len()).min(8)));
         if (home..path_at).contains(&state) || state == last {
-            (0..goals).for_each(|goal| set_goal(&mut model, state, goal));
+            set_every_goal(&mut model, state);
         }
     }
     model.settled(|state| (home..last).contains(&(state as u16)))
@@ -322,6 +377,13 @@ fn empty(states: u16, moves: u16, goals: u16) -> Model {
 /// Puts the state in the goal.
 fn set_goal(model: &mut Model, state: u16, goal: u16) {
     model.labels[usize::from(state)] |= 2 << goal;
+}
+
+/// Puts the state in all goals.
+fn set_every_goal(model: &mut Model, state: u16) {
+    for goal in 0..model.goals {
+        set_goal(model, state, goal);
+    }
 }
 
 fn scattered(states: u16, random: &mut Random) -> Model {
@@ -401,10 +463,10 @@ fn dense(states: u16, random: &mut Random) -> Model {
     model
 }
 
-fn chain(states: u16) -> Model {
-    let mut model = empty(states, 2, 1);
+fn chain(states: u16, goals: u16) -> Model {
+    let mut model = empty(states, 2, goals);
     for state in 0..states {
-        set_goal(&mut model, state, 0);
+        set_every_goal(&mut model, state);
         if state + 1 < states {
             model.arrows.push([state, 0, state + 1]);
         }
@@ -424,9 +486,7 @@ fn add_rungs(model: &mut Model, first: u16, end: u16) {
         }
         let upper = lower + 1;
         if upper < end {
-            for goal in 0..model.goals {
-                set_goal(model, upper, goal);
-            }
+            set_every_goal(model, upper);
             model.arrows.push([upper, 0, lower]);
         }
     }
@@ -435,8 +495,8 @@ fn add_rungs(model: &mut Model, first: u16, end: u16) {
     }
 }
 
-fn ladder(states: u16) -> Model {
-    let mut model = empty(states, 3, 2);
+fn ladder(states: u16, goals: u16) -> Model {
+    let mut model = empty(states, 3, goals);
     add_rungs(&mut model, 0, states);
     model
 }
@@ -474,6 +534,35 @@ fn grid(states: u16, random: &mut Random) -> Model {
                 model.arrows.push([state, action as u16, end]);
             }
         }
+    }
+    model
+}
+
+/// Of 1,024 states 200 are gates in every goal, each of which leads to the next, and the last nowhere. As many stand on
+/// the detour: each leads to the next, and by another move to a gate, the first to that which dies first. The others
+/// lead to the detour's first state one after another; the last 424 of them are the line, and have up to 19 moves that
+/// lead back, before the one that leads on.
+fn detour(states: u16) -> Model {
+    let moves = 20;
+    let share = |of_1024: u32| (u32::from(states) * of_1024 / 1024) as u16;
+    let (gates, line_at) = (share(200), states - share(424));
+    let mut model = empty(states, moves, 8);
+    for gate in 0..gates {
+        set_every_goal(&mut model, gate);
+        let beside = 2 * gates - 1 - gate;
+        model.arrows.push([beside, 0, gate]);
+        if gate + 1 < gates {
+            model.arrows.extend([[gate, 0, gate + 1], [beside - 1, 1, beside]]);
+        }
+    }
+    for state in 2 * gates..states {
+        let next = if state == 2 * gates { gates } else { state - 1 };
+        model.arrows.push([state, moves - 1, next]);
+    }
+    for action in 0..moves - 1 {
+        let back = (line_at..states).map(|state| [state, action, (state + 1 + action).min(states - 1)]);
+        let room = MOST_ARROWS - model.arrows.len();
+        model.arrows.extend(back.take(room));
     }
     model
 }

@@ -100,7 +100,7 @@ fn random_rounds() {
 fn families() {
     let mut comparison = Comparison::new(&Linked, &Fast);
     for family in FAMILIES {
-        for states in [1, 2, 31, 64, 300, 1024] {
+        for states in family.quick_sizes(&[1, 2, 31, 64, 300, 1024]) {
             rounds::each_move_in_turn(&mut comparison, &family.build(states, SEED));
             for way in WAYS_TO_SETTLE {
                 let model = way.of(family.build(states, SEED), &mut Random::new(SEED));

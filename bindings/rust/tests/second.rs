@@ -7,7 +7,7 @@ mod promises;
 
 use planbook::calls::{mask_bytes, Calls};
 use planbook::compare::{rounds, Comparison};
-use planbook::plants::{self, Model, Random, FAMILIES, WAYS_TO_SETTLE};
+use planbook::plants::{self, Family, Model, Random, FAMILIES, WAYS_TO_SETTLE};
 use planbook::second::format::{BookView, Plant};
 use planbook::second::{effort, Brute, Fast, Plain};
 
@@ -39,6 +39,8 @@ fn generated_plants_are_accepted() {
     }
     let gates = Plant::read(&plants::gates().bytes()).expect("the slow one");
     assert_eq!([gates.states, gates.moves, gates.goals, gates.arrows.len()], [1024, 15, 8, 8_086]);
+    let detour = Plant::read(&Family::Detour.build(1024, 1).bytes()).expect("the slow family's largest");
+    assert_eq!([detour.states, detour.moves, detour.goals, detour.arrows.len()], [1024, 20, 8, 8_192]);
     let (mut least, mut most) = ([usize::MAX; 4], [0; 4]);
     for seed in 0..4_000 {
         let plant = Plant::read(&plants::any_size(&mut Random::new(seed)).bytes()).expect("any size");
@@ -51,6 +53,30 @@ fn generated_plants_are_accepted() {
     println!("S, U, N and E from {least:?} to {most:?}");
     assert_eq!((least, &most[..3]), ([1, 1, 1, 0], &[1024, 32, 8][..]));
     assert!(most[3] > 7_500);
+}
+
+/// The rows of the book that the worklist solver makes, in rising order.
+fn sorted_rows(model: &Model) -> Vec<Vec<u8>> {
+    let mut book = vec![0; model.book_length()];
+    Fast.make(&model.bytes(), model.every_move(), &mut book);
+    let rows = &book[16..];
+    let mut rows: Vec<_> = rows.chunks_exact(rows.len() / model.labels.len()).map(Vec::from).collect();
+    rows.sort();
+    rows
+}
+
+/// Which numbers the states of a plant have makes no difference: the rows are the same, in another order.
+#[test]
+fn states_in_any_order() {
+    for (family, states) in FAMILIES.into_iter().flat_map(|family| [9, 70, 300].map(|states| (family, states))) {
+        let model = family.build(states, 3);
+        let settled = model.clone().settled(|state| state % 9 != 4);
+        for model in [model, settled] {
+            let shuffled = model.clone().shuffled(&mut Random::new(states.into()));
+            assert_ne!(model, shuffled);
+            assert_eq!(sorted_rows(&model), sorted_rows(&shuffled), "{} with {states} states", family.name());
+        }
+    }
 }
 
 #[test]
@@ -225,7 +251,7 @@ fn brute_force_agrees_on_invented_books() {
 fn sweeps_and_worklist_agree_on_families() {
     let mut comparison = Comparison::new(&Plain, &Fast);
     for family in FAMILIES {
-        for states in [1, 2, 3, 4, 7, 16, 33, 64, 150, 400, 1024] {
+        for states in family.quick_sizes(&[1, 2, 3, 4, 7, 16, 33, 64, 150, 400, 1024]) {
             rounds::each_move_in_turn(&mut comparison, &family.build(states, 1));
         }
         for (states, way) in

@@ -63,8 +63,9 @@ pub fn run(comparison: &mut Comparison, round: Round, seed: u64, calls: u64) -> 
 /// A plant of any size or family, of either sort.
 fn any_plant(random: &mut Random) -> Model {
     let model = if random.once_in(8) {
-        let states = random.from_to(1, 160) as u16;
-        FAMILIES[random.below(FAMILIES.len())].build(states, random.bits())
+        let family = FAMILIES[random.below(FAMILIES.len())];
+        let most = if family.is_slow() { 40 } else { 160 };
+        family.build(random.from_to(1, most) as u16, random.bits())
     } else {
         plants::any_size(random)
     };

@@ -54,15 +54,7 @@ impl Plant {
         let free = if settles { SETTLED } else { 0 };
         require(labels.iter().all(|&label| u32::from(label & !free) >> (goals + 1) == 0), Refusal::PlantLabel)?;
 
-        let arrows: Vec<Arrow> = bytes[arrows_at..]
-            .chunks_exact(6)
-            .map(|arrow| Arrow { from: number(arrow, 0), action: number(arrow, 2), to: number(arrow, 4) })
-            .collect();
-        let known = |arrow: &Arrow| {
-            usize::from(arrow.from) < states && usize::from(arrow.action) < moves && usize::from(arrow.to) < states
-        };
-        let ascending = arrows.windows(2).all(|pair| pair[0] < pair[1]);
-        require(arrows.iter().all(known) && ascending, Refusal::PlantArrow)?;
+        let arrows = read_arrows(&bytes[arrows_at..], states as u16, moves as u16).ok_or(Refusal::PlantArrow)?;
         Ok(Plant { states, moves, goals, settles, labels, arrows })
     }
 
@@ -100,6 +92,21 @@ impl Plant {
     }
 }
 
+/// Reads the arrows; none if one of them is out of range or they do not strictly ascend.
+fn read_arrows(bytes: &[u8], states: u16, moves: u16) -> Option<Vec<Arrow>> {
+    let read = |bytes: &[u8]| Arrow { from: number(bytes, 0), action: number(bytes, 2), to: number(bytes, 4) };
+    // The check has no early end and no choice to make: most plants have no fault. While they ascend, the last is the
+    // one that begins in the highest state.
+    let (mut is_fine, mut least) = (true, 0);
+    for Arrow { from, action, to } in bytes.chunks_exact(6).map(read) {
+        let rank = u64::from(from) << 32 | u64::from(action) << 16 | u64::from(to);
+        is_fine &= (action < moves) & (to < states) & (least <= rank);
+        least = rank + 1;
+    }
+    let ends_well = least >> 32 < u64::from(states);
+    (is_fine && ends_well).then(|| bytes.chunks_exact(6).map(read).collect())
+}
+
 /// A book that was read and found without fault.
 #[derive(Clone, Copy, Debug)]
 pub struct BookView<'a> {
@@ -111,6 +118,7 @@ pub struct BookView<'a> {
     pub mask: u32,
     /// Whether rows open with a stage: whether it is a book for plants whose runs must settle.
     pub has_stages: bool,
+    row_length: usize,
     rows: &'a [u8],
 }
 
@@ -128,42 +136,42 @@ impl<'a> BookView<'a> {
         let suits = plant.map_or(true, |plant| like(plant) == (states, moves, goals, has_stages));
         require(sound && suits, Refusal::BookHeader)?;
 
-        let book = BookView { states, goals, mask, has_stages, rows: &bytes[16..] };
-        let lost = (0..states).filter(|&state| book.is_lost(state)).count();
-        let sound = |state| book.is_lost(state) || book.is_sound(state);
-        require((0..states).all(sound) && states - lost == kept, Refusal::BookRow)?;
+        let rows = &bytes[16..];
+        let book = BookView { states, goals, mask, has_stages, row_length: rows.len() / states, rows };
+        let (mut lost, mut is_fine) = (0, true);
+        for row in rows.chunks_exact(book.row_length) {
+            let is_lost = row.iter().all(|&byte| byte == 0xff);
+            lost += usize::from(is_lost);
+            is_fine &= is_lost || book.is_sound(row);
+        }
+        require(is_fine && states - lost == kept, Refusal::BookRow)?;
         Ok(book)
     }
 
-    /// Whether a row is wholly lost.
-    fn is_lost(&self, state: usize) -> bool {
-        let stage = !self.has_stages || self.stage(state) == LOST;
-        stage && (0..self.goals).all(|goal| self.entry(state, goal) == (LOST, LOST))
-    }
-
     /// Whether a row can be that of a kept state.
-    fn is_sound(&self, state: usize) -> bool {
-        let in_range = |(wait, action)| wait <= LARGEST_WAIT && in_mask(self.mask, action);
-        (1..=self.states).contains(&self.stage(state).into())
-            && (0..self.goals).all(|goal| in_range(self.entry(state, goal)))
+    fn is_sound(&self, row: &[u8]) -> bool {
+        let (stage, entries) = row.split_at(self.row_length - 4 * self.goals);
+        let in_range = |entry: &[u8]| number(entry, 0) <= LARGEST_WAIT && in_mask(self.mask, number(entry, 2));
+        let is_stage = |stage: u16| (1..=self.states).contains(&stage.into());
+        numbers(stage).all(is_stage) && entries.chunks_exact(4).all(in_range)
     }
 
     /// How many bytes a row has.
     pub fn row_length(&self) -> usize {
-        self.rows.len() / self.states
+        self.row_length
     }
 
     /// The stage of a state, or [`LOST`]; 1 for every state of a book without stages.
     pub fn stage(&self, state: usize) -> u16 {
         match self.has_stages {
-            true => number(self.rows, self.row_length() * state),
+            true => number(self.rows, self.row_length * state),
             false => 1,
         }
     }
 
     /// The wait and the move of a state for a goal.
     pub fn entry(&self, state: usize, goal: usize) -> (u16, u16) {
-        let at = self.row_length() * (state + 1) - 4 * (self.goals - goal);
+        let at = self.row_length * (state + 1) - 4 * (self.goals - goal);
         (number(self.rows, at), number(self.rows, at + 2))
     }
 
@@ -182,13 +190,21 @@ fn book_length(states: usize, goals: usize, stages: bool) -> usize {
 pub fn write_book(plant: &Plant, mask: u32, table: &Table, book: &mut [u8]) {
     let halves = [mask as u16, (mask >> 16) as u16];
     let counts = [plant.states, plant.moves, plant.goals, table.kept_count(plant)].map(|count| count as u16);
-    let header = counts.into_iter().chain(halves).chain([16, book.len() as u16]);
-    let entries =
-        |row: usize| (row * plant.goals..(row + 1) * plant.goals).map(|at| [table.waits[at], table.moves[at]]);
-    let stage = |row: usize| plant.settles.then_some(table.stages[row]);
-    let rows = (0..plant.states).flat_map(|row| stage(row).into_iter().chain(entries(row).flatten()));
-    for (place, value) in book.chunks_exact_mut(2).zip(header.chain(rows)) {
+    let last = [16, book.len() as u16];
+    let (header, rows) = book.split_at_mut(16);
+    for (place, value) in header.chunks_exact_mut(2).zip(counts.into_iter().chain(halves).chain(last)) {
         place.copy_from_slice(&value.to_le_bytes());
+    }
+    let entries = table.waits.chunks_exact(plant.goals).zip(table.moves.chunks_exact(plant.goals));
+    let row_length = rows.len() / plant.states;
+    for ((row, stage), (waits, moves)) in rows.chunks_exact_mut(row_length).zip(&table.stages).zip(entries) {
+        let (front, row) = row.split_at_mut(row_length - 4 * plant.goals);
+        if plant.settles {
+            front.copy_from_slice(&stage.to_le_bytes());
+        }
+        for (place, (wait, action)) in row.chunks_exact_mut(4).zip(waits.iter().zip(moves)) {
+            place.copy_from_slice(&(u32::from(*wait) | u32::from(*action) << 16).to_le_bytes());
+        }
     }
 }
 

@@ -54,7 +54,7 @@ impl Table {
 
     /// How many states are kept.
     pub fn kept_count(&self, plant: &Plant) -> usize {
-        self.kept(plant).into_iter().filter(|&kept| kept).count()
+        (0..plant.states).filter(|&state| self.is_kept(plant, state)).count()
     }
 }
 

@@ -607,7 +607,7 @@ struct Seen {
 pub fn following_meets_the_goals(planner: &dyn Calls) {
     let mut seen = Seen::default();
     for family in FAMILIES {
-        for states in [5, 40, 300, 1024] {
+        for states in family.quick_sizes(&[5, 40, 300, 1024]) {
             walk_family(
                 planner,
                 &family.build(states, 1),
