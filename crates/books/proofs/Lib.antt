@@ -1,4 +1,5 @@
 -- Laws of the calls that write books.
 pub mod Started
 pub mod Made
+pub mod Answered
 pub mod Previewing

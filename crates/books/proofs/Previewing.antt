@@ -8,12 +8,12 @@ use lib.Dec.{eqb}
 use lib.ListN.{length}
 use Rattle.statements.specs.Sets.{pick, over}
 use Rattle.statements.specs.Plants.{word, plantOf}
-use Rattle.statements.specs.Books.{bookLong, bookCount, withdrawnBook}
+use Rattle.statements.specs.Books.{bookCount, withdrawnBook}
 use Rattle.sets.proofs.Over.{over-first}
-use Rattle.decoding.proofs.Header.{withdrawn-length}
 use Rattle.decoding.proofs.Faults.{preview-as-longest}
 use Rattle.promises.specs.declared.Answer.{Answer}
 use Rattle.promises.specs.Says.{WithdrawSays, PreviewSays}
+use Rattle.books.proofs.Made.{withdrawn-long}
 
 -- K of a book written over the first of a buffer
 count-over : (b o : List ℕ) → 16 ≤ length b → bookCount (over b o) ≡ bookCount b
@@ -27,12 +27,6 @@ kept-is : (t : Bool) (b o o′ : List ℕ) → 16 ≤ length b → bookCount o �
 kept-is true b o o′ h z e = ap bookCount e ∙ count-over b o h
 kept-is false b o o′ h z e = ap bookCount e ∙ z
 
--- a book has its header
-long-least : (t : Bool) (s n : ℕ) → 16 ≤ bookLong t s n
-unfolding bookLong
-long-least true s n = omega arith
-long-least false s n = omega arith
-
 -- a withdrawal into a book buffer of zeros that is long enough for every book: what it answers, and K as it stands in
 -- the buffer afterwards
 pub preview-done : {s b : List ℕ} {gone : ℕ} {o o′ d d′ : List ℕ} {r : Answer} (kept : ℕ)
@@ -40,11 +34,9 @@ pub preview-done : {s b : List ℕ} {gone : ℕ} {o o′ d d′ : List ℕ} {r :
     → PreviewSays s b gone d d′ (record { number = r .number; drops = r .drops; kept = kept })
 preview-done {s} {b} {gone} {o} {o′} {d} {d′} {r} kept says long zeros e =
     let new = withdrawnBook (plantOf s) b gone in
-    let header : 16 ≤ length new =
-    omega (arith, withdrawn-length (plantOf s) b gone, long-least (plantOf s .settles) (plantOf s .states) (plantOf s .goals)) in
     record {
       number = says .writes .number ∙ sym (preview-as-longest s b gone (length o) (length d) long);
       drops = says .writes .drops;
-      kept = e ∙ kept-is (eqb (r .number) 0) new o o′ header zeros (says .writes .book);
+      kept = e ∙ kept-is (eqb (r .number) 0) new o o′ (withdrawn-long (plantOf s) b gone) zeros (says .writes .book);
       list = says .writes .list;
     }

@@ -36,11 +36,13 @@ pub fn make_book(plant: &[u8], mask: u32, out: &mut [u8]) -> Answer
     ensures make_traced { λ _. ⌜ Demand-3-traced ⌝ }
     ensures make_determined { λ _. ⌜ Determined ⌝ }
 {
-    let fault = refusals::make(plant, mask, out.len());
-    if fault != 0 {
-        return refused(fault);
+    if !refusals::make_but_arrows(plant, mask, out.len()) {
+        return refused(refusals::make(plant, mask, out.len()));
     }
     let length = make::book(plant, mask, out);
+    if length == 0 {
+        return refused(3);
+    }
     Answer {
         number: 0,
         length: length,
@@ -66,11 +68,10 @@ pub fn withdraw_moves(
     ensures withdraw_listed { λ _. ⌜ Listed ⌝ }
     ensures withdraw_determined { λ _. ⌜ Determined ⌝ }
 {
-    let fault = refusals::withdraw(plant, book, mask, out.len(), drops.len());
-    if fault != 0 {
-        return refused(fault);
+    if !refusals::withdraw_but_arrows(plant, book, mask, out.len(), drops.len()) {
+        return refused(refusals::withdraw(plant, book, mask, out.len(), drops.len()));
     }
-    withdraw::accepted(plant, book, mask, out, drops)
+    withdraw::carry_out(plant, book, mask, out, drops)
 }
 
 // Takes a plant, a book, a list of up to 16 masks of moves to withdraw, four bytes each, a book buffer and a drop
@@ -93,11 +94,10 @@ pub fn withdraw_list(
     ensures list_in_turn_traced { λ _. ⌜ In-turn-traced ⌝ }
     ensures list_determined { λ _. ⌜ Determined ⌝ }
 {
-    let fault = refusals::withdraw_list(plant, book, masks, out.len(), drops.len());
-    if fault != 0 {
-        return refused(fault);
+    if !refusals::withdraw_list_but_arrows(plant, book, masks, out.len(), drops.len()) {
+        return refused(refusals::withdraw_list(plant, book, masks, out.len(), drops.len()));
     }
-    withdraw::accepted(plant, book, format::word::union(masks), out, drops)
+    withdraw::carry_out(plant, book, format::word::union(masks), out, drops)
 }
 
 // Takes a plant, a book, a mask of moves to return, a book buffer and a drop buffer. Writes the book of a make with the
@@ -119,12 +119,14 @@ pub fn return_moves(
     ensures return_back_traced { λ _. ⌜ Returning-traced ⌝ }
     ensures return_determined { λ _. ⌜ Determined ⌝ }
 {
-    let fault = refusals::withdraw(plant, book, mask, out.len(), gained.len());
-    if fault != 0 {
-        return refused(fault);
+    if !refusals::withdraw_but_arrows(plant, book, mask, out.len(), gained.len()) {
+        return refused(refusals::withdraw(plant, book, mask, out.len(), gained.len()));
     }
     let old = rows::mask(book);
     let length = make::book(plant, old | mask, out);
+    if length == 0 {
+        return refused(3);
+    }
     let count = writing::dropped(&out[..length as usize], book, gained);
     Answer {
         number: 0,

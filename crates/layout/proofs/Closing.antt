@@ -22,13 +22,14 @@ unfolding total
 pick-total true ys = omega arith
 pick-total false ys = refl
 
-pick-long : (b : Bool) (i j : ℕ) → length (pick b (i ∷ []) []) ≡ length (pick b (j ∷ []) [])
+-- one number for a test that holds, whichever it is
+pub pick-long : (b : Bool) (i j : ℕ) → length (pick b (i ∷ []) []) ≡ length (pick b (j ∷ []) [])
 pick-long true i j = refl
 pick-long false i j = refl
 
 module _ (p : Plant) (mask : ℕ) where
   -- as many ends as the sizes say
-  ends-length : length (groupEnds p mask) ≡ total (groupSizes p mask)
+  pub ends-length : length (groupEnds p mask) ≡ total (groupSizes p mask)
   unfolding groupEnds groupSizes allParts partsOf partOf
   ends-length =
       sym (joined-total (partsOf p mask (λ x u ys. length ys ∷ [])) (partsOf p mask (λ x u ys. ys))
@@ -43,32 +44,32 @@ module _ (p : Plant) (mask : ℕ) where
       (λ x. omega arith) (p .states) 0
 
   -- a state, a move and a size for each
-  states-length : length (groupStates p mask) ≡ length (groupSizes p mask)
+  pub states-length : length (groupStates p mask) ≡ length (groupSizes p mask)
   unfolding groupStates groupSizes allParts partsOf partOf
   states-length =
       joined-long (partsOf p mask (λ x u ys. x ∷ [])) (partsOf p mask (λ x u ys. length ys ∷ []))
       (λ x. joined-long (partOf p mask (λ x u ys. x ∷ []) x) (partOf p mask (λ x u ys. length ys ∷ []) x)
       (λ u. pick-long (available p mask x u) x (length (ends p x u))) (p .moves) 0) (p .states) 0
 
-  moves-length : length (groupMoves p mask) ≡ length (groupSizes p mask)
+  pub moves-length : length (groupMoves p mask) ≡ length (groupSizes p mask)
   unfolding groupMoves groupSizes allParts partsOf partOf
   moves-length =
       joined-long (partsOf p mask (λ x u ys. u ∷ [])) (partsOf p mask (λ x u ys. length ys ∷ []))
       (λ x. joined-long (partOf p mask (λ x u ys. u ∷ []) x) (partOf p mask (λ x u ys. length ys ∷ []) x)
       (λ u. pick-long (available p mask x u) u (length (ends p x u))) (p .moves) 0) (p .states) 0
 
-  counts-length : length (groupCounts p mask) ≡ p .states
+  pub counts-length : length (groupCounts p mask) ≡ p .states
   unfolding groupCounts
   counts-length =
       joined-length (λ x. length (partsOf p mask (λ y u ys. u ∷ []) x) ∷ []) 1 (λ _. refl) (p .states) 0 ∙ omega arith
 
 -- one number more than there are parts
-bounds-length : (ns : List ℕ) → length (bounds ns) ≡ suc (length ns)
+pub bounds-length : (ns : List ℕ) → length (bounds ns) ≡ suc (length ns)
 unfolding bounds
 bounds-length ns = omega (arith, length-append (starts 0 ns) (total ns ∷ []), starts-length 0 ns)
 
 -- as many numbers as the parts have
-numbered-length : (k : ℕ) (ns : List ℕ) → length (numbered k ns) ≡ total ns
+pub numbered-length : (k : ℕ) (ns : List ℕ) → length (numbered k ns) ≡ total ns
 unfolding numbered total
 numbered-length k [] = refl
 numbered-length k (n ∷ ns) =

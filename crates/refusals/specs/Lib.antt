@@ -1,1 +1,2 @@
--- No definitions of its own: the refusals are those of crate statements, specs/Calls.antt.
+-- The refusals are those of crate statements, specs/Calls.antt; here are their tests without that of the arrows.
+pub mod ButArrows

@@ -1,4 +1,5 @@
 // The numbers that the calls return: that of the first check that fails, or 0 when the call is accepted.
+use format::plant::before_arrows_ok;
 use format::plant::book_long;
 use format::plant_fault;
 use format::word::mask_ok;
@@ -7,8 +8,10 @@ use format::word::union;
 use rows::book_fault;
 ghost use mathlib.Core.Path.{_≡_};
 ghost use Rattle.statements.specs.Plants.{firstOf, plantOf};
-ghost use Rattle.statements.specs.Calls.{maskFault, wholeMasks, bookRoom, roomFault, makeFault, alike, lentFault};
-ghost use Rattle.statements.specs.Calls.{withdrawFault, withdrawListFault, numberFault, consultFault, movesFault};
+ghost use Rattle.statements.specs.Calls.{maskFault, wholeMasks, bookRoom, dropRoom, roomFault, makeFault, alike};
+ghost use Rattle.statements.specs.Calls.{lentFault, withdrawFault, withdrawListFault, numberFault, consultFault};
+ghost use Rattle.statements.specs.Calls.{movesFault};
+ghost use Rattle.refusals.specs.ButArrows.{makeButArrows, withdrawButArrows, listButArrows};
 
 // A book buffer is long enough for a plant's book.
 fn book_room(plant: &[u8], room: usize) -> bool
@@ -32,6 +35,13 @@ pub fn make(plant: &[u8], mask: u32, room: usize) -> u8
         return 7;
     }
     0
+}
+
+// Make passes all its checks but that of the plant's arrows.
+pub fn make_but_arrows(plant: &[u8], mask: u32, room: usize) -> bool
+    ensures { λ r. ⌜ r ≡ makeButArrows (now (plant .entry)) mask room ⌝ }
+{
+    before_arrows_ok(plant) & (mask_ok(number(plant, 1) as u32, mask) & book_room(plant, room))
 }
 
 // A book is for as many states, moves and goals as a plant has, and of its sort: as long as its books are.
@@ -59,6 +69,13 @@ fn lent(plant: &[u8], book: &[u8]) -> u8
     wrong
 }
 
+// A drop buffer is long enough for every state of a plant.
+fn drop_room(plant: &[u8], drops: usize) -> bool
+    ensures { λ r. ⌜ r ≡ dropRoom (plantOf (now (plant .entry))) drops ⌝ }
+{
+    2 * (number(plant, 0) as usize) <= drops
+}
+
 // What a withdrawal of moves returns for these and for the lengths of a book buffer and a drop buffer: 6, 7, or 0.
 fn given(plant: &[u8], gone: u32, room: usize, drops: usize) -> u8
     ensures { λ r. ⌜ r ≡ firstOf (maskFault (plantOf (now (plant .entry))) gone)
@@ -67,7 +84,7 @@ fn given(plant: &[u8], gone: u32, room: usize, drops: usize) -> u8
     if !mask_ok(number(plant, 1) as u32, gone) {
         return 6;
     }
-    if !(book_room(plant, room) & (2 * (number(plant, 0) as usize) <= drops)) {
+    if !(book_room(plant, room) & drop_room(plant, drops)) {
         return 7;
     }
     0
@@ -82,6 +99,16 @@ pub fn withdraw(plant: &[u8], book: &[u8], gone: u32, room: usize, drops: usize)
         return fault;
     }
     given(plant, gone, room, drops)
+}
+
+// A withdrawal or a return passes all its checks but that of the plant's arrows.
+pub fn withdraw_but_arrows(plant: &[u8], book: &[u8], gone: u32, room: usize, drops: usize) -> bool
+    ensures { λ r. ⌜ r ≡ withdrawButArrows (now (plant .entry)) (now (book .entry)) gone room drops ⌝ }
+{
+    if !(make_but_arrows(plant, gone, room) & drop_room(plant, drops)) {
+        return false;
+    }
+    alike(plant, book) & (book_fault(book) == 0)
 }
 
 // The bytes of up to 16 masks, none of them cut.
@@ -105,6 +132,19 @@ pub fn withdraw_list(plant: &[u8], book: &[u8], masks: &[u8], room: usize, drops
         return 9;
     }
     given(plant, union(masks), room, drops)
+}
+
+// A list of withdrawals passes all its checks but that of the plant's arrows.
+pub fn withdraw_list_but_arrows(
+    plant: &[u8],
+    book: &[u8],
+    masks: &[u8],
+    room: usize,
+    drops: usize,
+) -> bool
+    ensures { λ r. ⌜ r ≡ listButArrows (now (plant .entry)) (now (book .entry)) (now (masks .entry)) room drops ⌝ }
+{
+    whole_masks(masks) & withdraw_but_arrows(plant, book, union(masks), room, drops)
 }
 
 // What a call on a book returns for a state and a goal: 8, or 0.

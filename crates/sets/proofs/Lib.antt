@@ -7,3 +7,4 @@ pub mod Iterate
 pub mod Joined
 pub mod Over
 pub mod Rising
+pub mod Pieces

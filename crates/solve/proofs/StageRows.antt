@@ -1,79 +1,67 @@
 -- The stages so far, with one stage more, and at the end: when a stage adds no state all kept states have their rows.
 -- Assumes nothing.
-use mathlib.Core.Path.{_≡_, refl, sym, ap, _∙_, subst}
+use mathlib.Core.Path.{_≡_, refl, sym, ap, ap₂, _∙_, subst}
 use mathlib.Core.Logic.{⊎-elim}
-use mathlib.Core.Bool.{Bool, true, false, _&&_}
+use mathlib.Core.Bool.{Bool, true, false, _&&_, _||_, not}
 use mathlib.Core.List.{List, [], _∷_, _++_}
-use Prim.Native.Nat.{ℕ, zero, suc, _+_, _*_, _≤_, _<_}
-use native.Mathlib.Nat.{mul-le-mul-right}
+use Prim.Native.Nat.{ℕ, zero, suc, _+_, _≤_, _<_}
 use native.Mathlib.Numerals.{add-one}
 use native.Mathlib.Omega.{arith}
-use lib.Dec.{eqb}
-use lib.ListN.{length, getD, take, drop, replicate, length-replicate, getD-replicate, length-append, length-drop}
-use lib.Seq.{length-take-le, getD-take, getD-drop, ext-getD}
+use lib.Dec.{eqb, ltb}
+use lib.ListN.{length, getD, take, replicate, length-replicate, getD-replicate}
 use borrow.Author.Tests.{eq-eqb, ne-eqb}
 use Rattle.statements.specs.Sets.{pick, numbers, joined, iterate, isIn}
-use Rattle.statements.specs.Plants.{Plant, can}
-use Rattle.statements.specs.Kept.{stagesTo, nextStage, keptWithin, stageOf}
+use Rattle.statements.specs.Plants.{Plant, moveInto, can}
+use Rattle.statements.specs.Kept.{forced, nextStage, stagesTo, keptWithin}
 use Rattle.statements.specs.Books.{lostMark}
-use Rattle.sets.proofs.Tests.{decided, not-both, and-true, and-none}
+use Rattle.sets.proofs.Tests.{decided, not-both}
 use Rattle.sets.proofs.Members.{Sifted}
-use Rattle.sets.proofs.Joined.{joined-length}
+use Rattle.sets.proofs.Joined.{joined-same}
 use Rattle.sets.proofs.Iterate.{sifted-as-long, sifted-longer, sifted-few, sifted-below, iterate-still}
-use Rattle.kept.proofs.Stages.{stages-none, stages-sifted, stages-step, stages-stop}
+use Rattle.kept.proofs.Stages.{stage, stages-none, stages-sifted, stages-within, stages-step, stages-stop, stage-sound}
 use Rattle.kept.proofs.Kept.{kept-staged}
 use Rattle.arrays.specs.Lists.{among}
 use Rattle.solve.specs.Given.{below}
-use Rattle.solve.specs.Rows.{Columns, keptFrom, entryNumbers, stageNumbers, oneRow, rowNumbers, writtenRows}
-use Rattle.solve.specs.Stages.{Opened, rowWith, fresh, Placed, Blanked, Staged, Calm}
-use Rattle.solve.proofs.RowLists.{pieces-over, same-rest, joined-marks}
-use Rattle.solve.proofs.StageTurns.{pick-yes, pick-no}
-use Rattle.solve.proofs.StageSteps.{below-stages, next-held, new-written}
+use Rattle.solve.specs.Reached.{goes, reached, reachedBy}
+use Rattle.solve.specs.Rows.{Columns, keptFrom, entryNumbers, oneRow, Rowed, entriesOf, ownMove, rowOf, isNew, Placed}
+use Rattle.solve.specs.Stages.{Opened, Staged, Calm}
+use Rattle.solve.proofs.RowPlaces.{rowed-placed}
+use Rattle.solve.proofs.StageReach.{forced-same}
+use Rattle.solve.proofs.Entries.{has-wait, entries-are}
+use Rattle.solve.proofs.StageSteps.{below-stages, next-held, entry-reached, new-kept, new-stage, new-row}
+
+pub pick-yes : (b : Bool) (u v : ℕ) → b ≡ true → pick b u v ≡ u
+pick-yes b u v e = rw e refl
+
+pub pick-no : (b : Bool) (u v : ℕ) → b ≡ false → pick b u v ≡ v
+pick-no b u v e = rw e refl
 
 -- no stage yet
-pub staged-none : (p : Plant) (mask : ℕ) (start old rows stage : List ℕ) (count : ℕ) → p .states ≤ 1024
-    → stage ≡ replicate 1024 lostMark → count ≡ 2 * (p .states * p .goals) + p .states → Blanked count old rows
-    → Staged p mask start 0 stage rows rows
-staged-none p mask start old rows stage count small e en b =
+pub staged-none : (p : Plant) (mask : ℕ) (start old out stage : List ℕ) → p .states ≤ 1024
+    → stage ≡ replicate 1024 lostMark → Rowed p mask (keptWithin p mask (among start)) [] old out
+    → Staged p mask start 0 stage old out
+unfolding stagesTo iterate
+staged-none p mask start old out stage small e rows =
     record {
       has = λ x m. absurd (stages-none p mask (among start) x m);
       not-yet = λ x h m. ap (λ (ys : List ℕ). getD ys x 0) e ∙ getD-replicate 1024 x lostMark 0 (omega arith);
       room = omega (arith, ap length e, length-replicate 1024 lostMark);
-      row = λ x j h l.
-          b .marks (2 * (x * p .goals) + x + j) (in-rows x j h l)
-          ∙ sym (pick-no (isIn x (stagesTo 0 p mask (among start)))
-          (getD (oneRow p mask (keptWithin p mask (among start)) x) j 0) lostMark (none x));
-      long = refl;
-      rest = λ m h. refl;
+      rows = rows;
     }
-  where
-    none : (x : ℕ) → isIn x (stagesTo 0 p mask (among start)) ≡ false
-    none x =
-        ⊎-elim (λ m. absurd (stages-none p mask (among start) x m)) (λ m. m)
-        (decided (isIn x (stagesTo 0 p mask (among start))))
-
-    in-rows : (x j : ℕ) → x < p .states → j ≤ 2 * p .goals → 2 * (x * p .goals) + x + j < count
-    in-rows x j h l = let m = mul-le-mul-right {m = suc x} {n = p .states} (p .goals) h in omega arith
 
 pub no-stage : (p : Plant) (mask : ℕ) (start : List ℕ) → 0 ≡ length (stagesTo 0 p mask (among start))
 unfolding stagesTo iterate
 no-stage p mask start = refl
 
--- the stages over a list whose front was marked before
-pub staged-back : {p : Plant} {mask k count : ℕ} {start stage first old rows : List ℕ}
-    → count ≡ 2 * (p .states * p .goals) + p .states → Blanked count old first → Staged p mask start k stage first rows
-    → Staged p mask start k stage old rows
-staged-back e b s =
-    record {
-      has = s .has;
-      not-yet = s .not-yet;
-      room = s .room;
-      row = s .row;
-      long = s .long ∙ b .long;
-      rest = λ m h. s .rest m h ∙ b .rest m (omega arith);
-    }
+-- a row told from columns, in a plant that settles
+row-settled : (p : Plant) (mask : ℕ) (leave waits : List ℕ) (number x : ℕ) → p .settles ≡ true
+    → rowOf p mask leave waits number x ≡ number ∷ entriesOf p mask (ownMove p mask leave waits x) waits x
+unfolding rowOf
+row-settled p mask leave waits number x e =
+    ap (λ (b : Bool). pick b (number ∷ []) [] ++ entriesOf p mask (ownMove p mask leave waits x) waits x) e
 
-module _ (p : Plant) (mask : ℕ) (start : List ℕ) (some-goal : 0 < p .goals) (settling : p .settles ≡ true) where
+module _ (p : Plant) (mask : ℕ) (start : List ℕ) (some-goal : 0 < p .goals) (settling : p .settles ≡ true)
+    (small : p .states ≤ 1024) where
   abbrev Upto : ℕ → List ℕ
   Upto n = stagesTo n p mask (among start)
 
@@ -81,115 +69,116 @@ module _ (p : Plant) (mask : ℕ) (start : List ℕ) (some-goal : 0 < p .goals) 
   Kept = keptWithin p mask (among start)
 
   -- one stage more
-  module _ (k : ℕ) {stages old rows stages' rows' list entries : List ℕ} {number : ℕ}
-      (so-far : Staged p mask start k stages old rows) (list-is : list ≡ Upto (suc k)) (is : number ≡ suc k)
-      (small : number < 65535)
-      (written : (x : ℕ) → isIn x (Upto (suc k)) ≡ true → isIn x (Upto k) ≡ false → (j : ℕ) → j ≤ 2 * p .goals
-      → rowWith number (p .goals) entries x j ≡ getD (oneRow p mask Kept x) j 0)
-      (placed : Placed (p .states) list number (p .goals) entries stages rows stages' rows') where
-    -- a state that is new gets its stage
-    fresh-new : (x : ℕ) → x < p .states → isIn x (Upto (suc k)) ≡ true → isIn x (Upto k) ≡ false
-        → fresh list stages x ≡ true
-    unfolding fresh
-    fresh-new x h m n =
-        let listed : isIn x list ≡ true = ap (isIn x) list-is ∙ m in
-        and-true listed (eq-eqb (getD stages x 0) lostMark (so-far .not-yet x h n))
+  module _ (k : ℕ) {stages old out stages' out' leave waits : List ℕ} {number : ℕ}
+      (so-far : Staged p mask start k stages old out) (is : number ≡ suc k) (low : number < 65535)
+      (leaves : (y : ℕ) → isIn y start ≡ true → getD leave y 0 ≡ moveInto p mask (Upto k) y)
+      (columns : Columns p mask leave (Upto (suc k)) waits)
+      (placed : Placed p mask leave waits number stages out stages' out') where
+    set : Sifted (numbers (p .states) 0) (Upto (suc k))
+    set = stages-sifted p mask (among start) (suc k)
 
-    -- one that has a stage keeps it, and one outside gets none
-    fresh-old : (x : ℕ) → isIn x (Upto k) ≡ true → fresh list stages x ≡ false
-    unfolding fresh
-    fresh-old x m =
-        and-none (isIn x list) (eqb (getD stages x 0) lostMark)
-        (ne-eqb (getD stages x 0) lostMark (λ e. omega (arith, so-far .has x m)))
+    member : (y : ℕ) → isIn y (Upto (suc k)) ≡ true → isIn y start ≡ true
+    unfolding among
+    member y m = stages-within p mask (among start) (suc k) y m .1
 
-    fresh-out : (x : ℕ) → isIn x (Upto (suc k)) ≡ false → fresh list stages x ≡ false
-    unfolding fresh
-    fresh-out x m = ap (λ (b : Bool). b && eqb (getD stages x 0) lostMark) (ap (isIn x) list-is ∙ m)
+    agree : (y : ℕ) → isIn y (Upto (suc k)) ≡ true → goes p leave y ≡ can p mask (Upto k) y
+    unfolding goes can
+    agree y m = ap (λ (v : ℕ). ltb v (p .moves)) (leaves y (member y m))
 
-    still-out : (x : ℕ) → isIn x (Upto (suc k)) ≡ false → isIn x (Upto k) ≡ false
-    still-out x m =
-        ⊎-elim (λ o. absurd (not-both (stages-step p mask (among start) some-goal k x o) m)) (λ o. o)
+    -- its states force every goal
+    full : (i x : ℕ) → i < p .goals → isIn x (Upto (suc k)) ≡ true
+        → isIn x (forced p mask (goes p leave) (Upto (suc k)) i) ≡ true
+    full i x hi m =
+        ap (isIn x)
+        (forced-same p mask leave (stage p mask (among start) k) some-goal (stage-sound p mask (among start) some-goal k)
+        agree (λ y n d. leaves y (member y n)) i hi)
+        ∙ stage-sound p mask (among start) some-goal k .forces x i m hi
+
+    -- a state is new where it has a wait now and had no stage before
+    has-stage : (x : ℕ) → x < p .states → eqb (getD stages x 0) lostMark ≡ not (isIn x (Upto k))
+    has-stage x h =
+        ⊎-elim
+        (λ m. ne-eqb (getD stages x 0) lostMark (λ e. omega (arith, so-far .has x m)) ∙ sym (ap not m))
+        (λ m. eq-eqb (getD stages x 0) lostMark (so-far .not-yet x h m) ∙ sym (ap not m))
         (decided (isIn x (Upto k)))
+
+    new-is : (x : ℕ) → x < p .states → isNew waits stages x ≡ (isIn x (Upto (suc k)) && not (isIn x (Upto k)))
+    unfolding isNew
+    new-is x h =
+        ap₂ (λ (a b : Bool). a && b)
+        (has-wait p mask leave (Upto (suc k)) set small waits columns some-goal full x h) (has-stage x h)
 
     inside : (x : ℕ) → isIn x (Upto (suc k)) ≡ true → x < p .states
-    inside x m = sifted-below (p .states) (Upto (suc k)) (stages-sifted p mask (among start) (suc k)) x m
+    inside x m = sifted-below (p .states) (Upto (suc k)) set x m
 
-    has-next : (x : ℕ) → isIn x (Upto (suc k)) ≡ true → getD stages' x 0 < lostMark
-    has-next x m =
+    -- the states of the next stage
+    more-are : (x : ℕ) → x < p .states → isIn x (Upto (suc k)) ≡ (isIn x (Upto k) || isNew waits stages x)
+    more-are x h =
         ⊎-elim
-        (λ o. omega (
-          arith,
-          so-far .has x o,
-          placed .stage-is x ∙ pick-no (fresh list stages x) number (getD stages x 0) (fresh-old x o),
-        ))
-        (λ o. omega (
-          arith,
-          small,
-          placed .stage-is x ∙ pick-yes (fresh list stages x) number (getD stages x 0) (fresh-new x (inside x m) m o),
-        ))
-        (decided (isIn x (Upto k)))
-
-    row-next : (x j : ℕ) → x < p .states → j ≤ 2 * p .goals → getD rows' (2 * (x * p .goals) + x + j) 0
-        ≡ pick (isIn x (Upto (suc k))) (getD (oneRow p mask Kept x) j 0) lostMark
-    row-next x j h l =
-        let was = getD rows (2 * (x * p .goals) + x + j) 0 in
-        let row = getD (oneRow p mask Kept x) j 0 in
-        let put = rowWith number (p .goals) entries x j in
-        placed .row-is x j l
-        ∙ ⊎-elim
         (λ m.
-        ⊎-elim
-        (λ o. pick-no (fresh list stages x) put was (fresh-old x o) ∙ so-far .row x j h l
-        ∙ pick-yes (isIn x (Upto k)) row lostMark o)
-        (λ o. pick-yes (fresh list stages x) put was (fresh-new x h m o) ∙ written x m o j l)
+        stages-step p mask (among start) some-goal k x m
+        ∙ sym (ap (λ (b : Bool). b || isNew waits stages x) m))
+        (λ m.
+        sym (ap₂ (λ (a b : Bool). a || b) m
+        (new-is x h ∙ ap (λ (b : Bool). isIn x (Upto (suc k)) && not b) m) ∙ whole (isIn x (Upto (suc k)))))
         (decided (isIn x (Upto k)))
-        ∙ sym (pick-yes (isIn x (Upto (suc k))) row lostMark m))
-        (λ m. pick-no (fresh list stages x) put was (fresh-out x m) ∙ so-far .row x j h l
-        ∙ pick-no (isIn x (Upto k)) row lostMark (still-out x m) ∙ sym (pick-no (isIn x (Upto (suc k))) row lostMark m))
-        (decided (isIn x (Upto (suc k))))
+      where
+        whole : (b : Bool) → (false || (b && not false)) ≡ b
+        whole true = refl
+        whole false = refl
 
-    pub staged-more : Staged p mask start (suc k) stages' old rows'
+    both : (x : ℕ) → x < p .states → isNew waits stages x ≡ true
+        → (isIn x (Upto (suc k)) ≡ true) × (isIn x (Upto k) ≡ false)
+    both x h e = apart (isIn x (Upto (suc k))) (isIn x (Upto k)) (sym (new-is x h) ∙ e)
+      where
+        apart : (a b : Bool) → (a && not b) ≡ true → (a ≡ true) × (b ≡ false)
+        apart true true q = absurd (not-both q refl)
+        apart true false q = (refl, refl)
+        apart false b q = absurd (not-both q refl)
+
+    -- a new state's row is that of the book
+    row-is : (x : ℕ) → x < p .states → isNew waits stages x ≡ true
+        → rowOf p mask leave waits number x ≡ oneRow p mask Kept x
+    row-is x h e =
+        let m = both x h e in
+        row-settled p mask leave waits number x settling
+        ∙ (ap₂ (λ (v : ℕ) (ys : List ℕ). v ∷ ys) is
+        (entries-are p mask leave (Upto (suc k)) set small waits columns some-goal full x (m .0)
+        ∙ joined-same (λ i. reached p mask leave (Upto (suc k)) i x ∷ (reachedBy p mask leave (Upto (suc k)) i x ∷ []))
+        (entryNumbers p mask Kept x) (p .goals) 0
+        (λ i l b.
+        sym (entry-reached p mask leave Kept (stage p mask (among start) k) some-goal
+        (stage-sound p mask (among start) some-goal k) agree (λ y n d. leaves y (member y n)) x
+        (new-kept p mask start some-goal settling k x (m .0) (m .1)) (m .0)
+        (new-stage p mask start some-goal settling k x (m .0) (m .1)) i (omega arith))))
+        ∙ sym (new-row p mask start some-goal settling k x (m .0) (m .1)))
+
+    pub staged-more : Staged p mask start (suc k) stages' old out'
     staged-more =
         record {
-          has = has-next;
+          has = λ x m.
+              let e = placed .stage-is x (inside x m) in
+              ⊎-elim
+              (λ n.
+              let old-one : isNew waits stages x ≡ false =
+              new-is x (inside x m) ∙ ap₂ (λ (a b : Bool). a && not b) m n in
+              omega (arith, so-far .has x n, e ∙ pick-no (isNew waits stages x) number (getD stages x 0) old-one))
+              (λ n.
+              let new-one : isNew waits stages x ≡ true =
+              new-is x (inside x m) ∙ ap₂ (λ (a b : Bool). a && not b) m n in
+              omega (arith, low, e ∙ pick-yes (isNew waits stages x) number (getD stages x 0) new-one))
+              (decided (isIn x (Upto k)));
           not-yet = λ x h m.
-              placed .stage-is x ∙ pick-no (fresh list stages x) number (getD stages x 0) (fresh-out x m)
-              ∙ so-far .not-yet x h (still-out x m);
+              let out-one : isNew waits stages x ≡ false =
+              new-is x h ∙ ap (λ (b : Bool). b && not (isIn x (Upto k))) m in
+              let was : isIn x (Upto k) ≡ false =
+              ⊎-elim (λ o. absurd (not-both (stages-step p mask (among start) some-goal k x o) m)) (λ o. o)
+              (decided (isIn x (Upto k))) in
+              placed .stage-is x h
+              ∙ (pick-no (isNew waits stages x) number (getD stages x 0) out-one ∙ so-far .not-yet x h was);
           room = omega (arith, so-far .room, placed .stage-long);
-          row = row-next;
-          long = placed .long ∙ so-far .long;
-          rest = λ m h. placed .rest m h ∙ so-far .rest m h;
+          rows = rowed-placed (so-far .rows) placed more-are row-is;
         }
-
-  -- a row of a settled plant is as long as its entries and the stage
-  two-numbers : (x i : ℕ) → length (entryNumbers p mask Kept x i) ≡ 2
-  unfolding entryNumbers
-  two-numbers x i = ⊎-elim (λ e. rw e refl) (λ e. rw e refl) (decided (isIn x Kept))
-
-  row-long : (x : ℕ) → length (oneRow p mask Kept x) ≡ 2 * p .goals + 1
-  unfolding oneRow stageNumbers
-  row-long x =
-      ap (λ (b : Bool). length (pick b (pick (isIn x Kept) (stageOf p mask Kept x) lostMark ∷ []) []
-      ++ joined (p .goals) 0 (entryNumbers p mask Kept x))) settling
-      ∙ omega (arith, joined-length (entryNumbers p mask Kept x) 2 (two-numbers x) (p .goals) 0)
-
-  -- a lost state has marks
-  marks : (x : ℕ) → isIn x Kept ≡ false → (i : ℕ) → entryNumbers p mask Kept x i ≡ lostMark ∷ (lostMark ∷ [])
-  unfolding entryNumbers
-  marks x m i = rw m refl
-
-  lost-row : (x : ℕ) → isIn x Kept ≡ false → (j : ℕ) → j ≤ 2 * p .goals → getD (oneRow p mask Kept x) j 0 ≡ lostMark
-  unfolding oneRow stageNumbers
-  lost-row x m j l =
-      ap (λ (b : Bool). getD (pick b (pick (isIn x Kept) (stageOf p mask Kept x) lostMark ∷ []) []
-      ++ joined (p .goals) 0 (entryNumbers p mask Kept x)) j 0) settling
-      ∙ by-place j l
-    where
-      by-place : (j : ℕ) → j ≤ 2 * p .goals
-          → getD (pick (isIn x Kept) (stageOf p mask Kept x) lostMark ∷ joined (p .goals) 0 (entryNumbers p mask Kept x)) j 0
-          ≡ lostMark
-      by-place zero b = pick-no (isIn x Kept) (stageOf p mask Kept x) lostMark m
-      by-place (suc i) b = joined-marks (entryNumbers p mask Kept x) (marks x m) (p .goals) 0 i (omega arith)
 
   -- the end: a stage that adds no state
   pub upto-few : (k : ℕ) → length (Upto k) ≤ p .states
@@ -235,62 +224,26 @@ module _ (p : Plant) (mask : ℕ) (start : List ℕ) (some-goal : 0 < p .goals) 
           ∙ calm .none x (in-start x w) s (so-far .not-yet x h m))))
           (decided (isIn x (Upto (suc k)))))
 
-  module _ (k : ℕ) {stages old rows : List ℕ} (so-far : Staged p mask start k stages old rows) (is : Kept ≡ Upto k) where
-    pub ended-rows : 2 * (p .states * p .goals) + p .states ≤ length old → rows ≡ writtenRows p mask Kept old
-    unfolding rowNumbers
-    ended-rows room =
-        pieces-over (oneRow p mask Kept) (2 * p .goals + 1) (p .states) old rows (2 * (p .states * p .goals) + p .states)
-        (omega arith) (omega (arith, so-far .long)) piece
-        (same-rest (2 * (p .states * p .goals) + p .states) old rows (so-far .long) (so-far .rest))
-      where
-        place : (x : ℕ) → x < p .states → 2 * (x * p .goals) + x + (2 * p .goals + 1) ≤ length rows
-        place x h =
-            let m = mul-le-mul-right {m = suc x} {n = p .states} (p .goals) h in omega (arith, so-far .long)
-
-        piece : (x : ℕ) → x < p .states → take (2 * p .goals + 1) (drop (x * (2 * p .goals + 1)) rows) ≡ oneRow p mask Kept x
-        piece x h =
-            let size = 2 * p .goals + 1 in
-            let at : x * size ≡ 2 * (x * p .goals) + x = omega arith in
-            let room : size ≤ length (drop (x * size) rows) = omega (arith, place x h, length-drop (x * size) rows) in
-            let long = length-take-le size (drop (x * size) rows) room in
-            ext-getD 0 (take size (drop (x * size) rows)) (oneRow p mask Kept x) (long ∙ sym (row-long x))
-            (λ j l.
-            let there : x * size + j ≡ 2 * (x * p .goals) + x + j = omega arith in
-            getD-take size (drop (x * size) rows) j 0 (omega arith) ∙ getD-drop (x * size) rows j 0
-            ∙ ap (λ (m : ℕ). getD rows m 0) there ∙ so-far .row x j h (omega arith)
-            ∙ ap (λ (ys : List ℕ). pick (isIn x ys) (getD (oneRow p mask Kept x) j 0) lostMark) (sym is)
-            ∙ ⊎-elim
-            (λ m. pick-yes (isIn x Kept) (getD (oneRow p mask Kept x) j 0) lostMark m)
-            (λ m. pick-no (isIn x Kept) (getD (oneRow p mask Kept x) j 0) lostMark m
-            ∙ sym (lost-row x m j (omega arith)))
-            (decided (isIn x Kept)))
-
 -- what a stage's functions leave, put together
 module _ (p : Plant) (mask : ℕ) (start : List ℕ) (some-goal : 0 < p .goals) (settling : p .settles ≡ true)
-    (set : Sifted (numbers (p .states) 0) start) (done : ℕ) (small : done < 65534)
-    (last : List ℕ) {stages leave all entries : List ℕ} {count r : ℕ}
+    (small : p .states ≤ 1024) (set : Sifted (numbers (p .states) 0) start) (done : ℕ) (few : done < 65534)
+    {stages leave all waits : List ℕ} {count r : ℕ}
     (o : Opened p mask start (below stages 65535 (p .states)) leave all count)
     (number : r ≡ length (keptFrom p mask leave (take count all)))
-    (columns : Columns p mask leave (keptFrom p mask leave (take count all)) (p .goals) entries)
-    (list : take r last ≡ keptFrom p mask leave (take count all)) (room : 2 * (p .states * p .goals) ≤ length entries)
-    (old rows : List ℕ) (so-far : Staged p mask start done stages old rows) where
+    (columns : Columns p mask leave (keptFrom p mask leave (take count all)) waits)
+    (old out : List ℕ) (so-far : Staged p mask start done stages old out) where
   held : keptFrom p mask leave (take count all) ≡ stagesTo (suc done) p mask (among start)
-  held = next-held p mask start done stages old rows so-far set leave all count o
+  held = next-held p mask start done stages old out so-far set leave all count o
 
   pub advanced-count : r ≡ length (stagesTo (done + 1) p mask (among start))
-  advanced-count = number ∙ ap length held ∙ ap (λ (n : ℕ). length (stagesTo n p mask (among start))) (sym (add-one done))
+  advanced-count =
+      number ∙ (ap length held ∙ ap (λ (n : ℕ). length (stagesTo n p mask (among start))) (sym (add-one done)))
 
-  pub advanced : (states goals : ℕ) {stages' rows' : List ℕ} → states ≡ p .states → goals ≡ p .goals
-      → Placed states (take r last) (done + 1) goals entries stages rows stages' rows'
-      → Staged p mask start (done + 1) stages' old rows'
-  advanced states goals {stages'} {rows'} es eg placed =
-      let here : Placed (p .states) (take r last) (done + 1) (p .goals) entries stages rows stages' rows' =
-      subst (λ (g : ℕ). Placed (p .states) (take r last) (done + 1) g entries stages rows stages' rows') eg
-      (subst (λ (n : ℕ). Placed n (take r last) (done + 1) goals entries stages rows stages' rows') es placed) in
-      let theirs = subst (λ (ys : List ℕ). Columns p mask leave ys (p .goals) entries) held columns in
+  pub advanced : {stages' out' : List ℕ} → Placed p mask leave waits (done + 1) stages out stages' out'
+      → Staged p mask start (done + 1) stages' old out'
+  advanced {stages'} {out'} placed =
+      let theirs = subst (λ (ys : List ℕ). Columns p mask leave ys waits) held columns in
       let leaves = subst (λ (ys : List ℕ). Opened p mask start ys leave all count)
-      (below-stages p mask start done stages old rows so-far) o .leaves in
-      subst (λ (n : ℕ). Staged p mask start n stages' old rows') (sym (add-one done))
-      (staged-more p mask start some-goal settling done so-far (list ∙ held) (add-one done) (omega arith)
-      (λ x m n. new-written p mask start some-goal settling done x m n leave entries leaves theirs room (done + 1)
-      (add-one done)) here)
+      (below-stages p mask start done stages old out so-far) o .leaves in
+      subst (λ (n : ℕ). Staged p mask start n stages' old out') (sym (add-one done))
+      (staged-more p mask start some-goal settling small done so-far (add-one done) (omega arith) leaves theirs placed)

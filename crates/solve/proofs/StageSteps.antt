@@ -1,43 +1,36 @@
--- One stage more: the states held are those of the next stage, their entries are those of the book, and rows put to their
--- places go on from the stages so far. Assumes nothing.
+-- One stage more: the states held are those of the next stage, and their entries are those of the book.
+-- Assumes nothing.
 use mathlib.Core.Path.{_≡_, refl, sym, ap, ap₂, _∙_, subst}
 use mathlib.Core.Logic.{⊎-elim}
 use mathlib.Core.Bool.{Bool, true, false, _&&_, _||_}
 use mathlib.Core.List.{List, [], _∷_, _++_}
-use Prim.Native.Nat.{ℕ, zero, suc, _+_, _*_, _≤_, _<_}
-use native.Mathlib.Numerals.{add-one}
-use native.Mathlib.Nat.{zero-add}
+use Prim.Native.Nat.{ℕ, zero, suc, _≤_, _<_}
 use native.Mathlib.Omega.{arith}
 use native.Mathlib.Decide.{decLt}
-use lib.Dec.{eqb, ltb}
-use lib.ListN.{length, getD, take, drop, replicate, length-replicate}
-use lib.Seq.{drop-drop, length-take-le, getD-take, getD-drop}
-use borrow.Author.Tests.{lt-ltb, ltb-true, eq-eqb, ne-eqb}
+use lib.Dec.{ltb}
+use lib.ListN.{length, getD, take}
+use borrow.Author.Tests.{lt-ltb, ltb-true}
 use Rattle.statements.specs.Sets.{pick, numbers, joined, isIn, filter}
-use Rattle.statements.specs.Plants.{Plant, plantOf, plantFault, settled, moveInto, can}
-use Rattle.statements.specs.Kept.{forcedAll, stagesTo, keptWithin, stagesBefore, stageOf, Stage, stageAfter, stageFor}
+use Rattle.statements.specs.Plants.{Plant, settled, moveInto, can}
+use Rattle.statements.specs.Kept.{stagesTo, keptWithin, stagesBefore, stageOf, Stage, stageAfter, stageFor}
 use Rattle.statements.specs.Kept.{waitIn, waitOf, landing, listedMove}
 use Rattle.statements.specs.Books.{lostMark}
-use Rattle.sets.proofs.Tests.{decided, not-both, and-true, and-left, and-right, and-none}
+use Rattle.sets.proofs.Tests.{decided, not-both, and-true, and-left, and-right}
 use Rattle.sets.proofs.Members.{Sifted, sifted-filter, sifted-member, sifted-same, sifted-sub, filter-holds, filter-in}
-use Rattle.sets.proofs.Members.{numbers-holds, numbers-in}
-use Rattle.sets.proofs.Iterate.{iterate-sifted}
-use Rattle.kept.proofs.Held.{forcedAll-sifted, held-within, held-into, held-same}
-use Rattle.kept.proofs.Stages.{calm, stage, stages-suc, stages-sifted, stages-within, stages-step, stages-top, stage-sound}
+use Rattle.sets.proofs.Members.{numbers-holds}
+use Rattle.kept.proofs.Held.{held-within, held-into, held-same}
+use Rattle.kept.proofs.Stages.{calm, stage, stages-suc, stages-sifted, stages-top}
 use Rattle.kept.proofs.Kept.{kept-staged, stages-kept, for-staged, stage-upto, upto-stage}
 use Rattle.kept.proofs.Waits.{Sound}
-use Rattle.decoding.proofs.Faults.{entries-few}
 use Rattle.arrays.specs.Lists.{among}
-use Rattle.arrays.proofs.Columns.{entry-room}
 use Rattle.solve.specs.Given.{below}
 use Rattle.solve.specs.Reached.{goes, reached, reachedBy}
-use Rattle.solve.specs.Rows.{Columns, keptFrom, entryNumbers, stageNumbers, oneRow}
-use Rattle.solve.specs.Stages.{passing, Opened, rowWith, fresh, Placed, Staged}
-use Rattle.solve.proofs.RoundsKept.{begun, take-fits}
-use Rattle.solve.proofs.RoundsRows.{stage-reached}
-use Rattle.solve.proofs.RowLists.{joined-take, two-at}
+use Rattle.solve.specs.Rows.{keptFrom, entryNumbers, stageNumbers, oneRow}
+use Rattle.solve.specs.Stages.{passing, Opened, Staged}
+use Rattle.solve.proofs.Starts.{begun, take-fits}
+use Rattle.solve.proofs.StageReach.{stage-reached}
 
--- the rounds begin with the states that the stage may pass, and leave a set of states
+-- a stage begins with the states that it may pass, a set of states
 pub first-set : {p : Plant} {mask count : ℕ} {start earlier leave all : List ℕ}
     → Opened p mask start earlier leave all count → Sifted (numbers (p .states) 0) start
     → (count ≤ length all) × Sifted (numbers (p .states) 0) (take count all)
@@ -45,17 +38,6 @@ first-set {p} {mask} {count} {start} {earlier} {leave} {all} o set = (
   take-fits count all (ap length (o .list) ∙ sym (o .number)),
   subst (Sifted (numbers (p .states) 0)) (sym (o .list))
       (sifted-sub (passing p mask earlier) (numbers (p .states) 0) start set),
-)
-
-pub last-set : (p : Plant) (mask : ℕ) (leave first all : List ℕ) {r : ℕ} → Sifted (numbers (p .states) 0) first
-    → r ≡ length (keptFrom p mask leave first) → take r all ≡ keptFrom p mask leave first
-    → (r ≤ length all) × Sifted (numbers (p .states) 0) (take r all)
-unfolding keptFrom
-last-set p mask leave first all {r} set number list = (
-  take-fits r all (ap length list ∙ sym number),
-  subst (Sifted (numbers (p .states) 0)) (sym list)
-      (iterate-sifted (numbers (p .states) 0) first (forcedAll (p .goals) p mask (goes p leave)) set
-      (forcedAll-sifted (p .goals) p mask (goes p leave) (numbers (p .states) 0)) (p .states)),
 )
 
 module _ (p : Plant) (mask : ℕ) (start : List ℕ) (k : ℕ) (stages old rows : List ℕ)
@@ -120,27 +102,6 @@ module _ (p : Plant) (mask : ℕ) (start : List ℕ) (k : ℕ) (stages old rows 
         goes-can x (and-left (isIn x start) (settled p x || can p mask (Upto k) x) c) ∙ d))
         ∙ sym (stages-suc p mask (among start) k)
 
--- a row of columns
-pub columns-row : (p : Plant) (mask : ℕ) (leave all entries : List ℕ) → Columns p mask leave all (p .goals) entries
-    → (x : ℕ) → x < p .states → 2 * (p .states * p .goals) ≤ length entries → (part : ℕ → List ℕ)
-    → ((i : ℕ) → i < p .goals → part i ≡ reached p mask leave all i x ∷ (reachedBy p mask leave all i x ∷ []))
-    → take (p .goals * 2) (drop (x * (p .goals * 2)) entries) ≡ joined (p .goals) 0 part
-columns-row p mask leave all entries columns x hx room part parts =
-    joined-take part 2 (p .goals) 0 (drop (x * (p .goals * 2)) entries)
-    (λ i hi.
-    let place : x * (p .goals * 2) + i * 2 ≡ 2 * (x * p .goals + i) = omega arith in
-    let fits : 2 * (x * p .goals + i) + 2 ≤ length entries =
-    omega (arith, entry-room (p .states) (p .goals) x i hx hi) in
-    rw (
-      drop-drop,
-      place,
-      zero-add,
-      two-at entries (2 * (x * p .goals + i)) fits,
-      columns .wait-is x i hx hi,
-      columns .move-is x i hx hi,
-    )
-    (sym (parts i hi)))
-
 -- what an entry's two numbers are, in a sound stage that a kept state's entries are worked out from
 module _ (p : Plant) (mask : ℕ) (leave Kept : List ℕ) (s : Stage) (some-goal : 0 < p .goals) (sound : Sound p mask s)
     (agree : (x : ℕ) → isIn x (s .through) ≡ true → goes p leave x ≡ s .exits x)
@@ -156,13 +117,6 @@ module _ (p : Plant) (mask : ℕ) (leave Kept : List ℕ) (s : Stage) (some-goal
       ∙ ap₂ (λ (v w : ℕ). v ∷ (w ∷ []))
       (ap (λ (t : Stage). waitIn p mask (t .exits) (t .through) i x) for-x ∙ sym (r .0))
       (ap (λ (t : Stage). moveInto p mask (landing p mask t i x) x) for-x ∙ sym (r .1))
-
-  -- so a row of columns has the entries of the book
-  pub row-reached : (entries : List ℕ) → Columns p mask leave (s .through) (p .goals) entries
-      → x < p .states → 2 * (p .states * p .goals) ≤ length entries
-      → take (p .goals * 2) (drop (x * (p .goals * 2)) entries) ≡ joined (p .goals) 0 (entryNumbers p mask Kept x)
-  row-reached entries columns hx room =
-      columns-row p mask leave (s .through) entries columns x hx room (entryNumbers p mask Kept x) entry-reached
 
 -- a state that is new in a stage
 module _ (p : Plant) (mask : ℕ) (start : List ℕ) (some-goal : 0 < p .goals) (settling : p .settles ≡ true) (k x : ℕ)
@@ -208,43 +162,3 @@ module _ (p : Plant) (mask : ℕ) (start : List ℕ) (some-goal : 0 < p .goals) 
       ∙ ap (λ (b : Bool). pick b (stageOf p mask Kept x) lostMark ∷ joined (p .goals) 0 (entryNumbers p mask Kept x))
       new-kept
       ∙ ap (λ (n : ℕ). suc n ∷ joined (p .goals) 0 (entryNumbers p mask Kept x)) new-before
-
-  -- the rows of its columns go on with its entries
-  pub new-written : (leave entries : List ℕ)
-      → ((y : ℕ) → isIn y start ≡ true → getD leave y 0 ≡ moveInto p mask (stagesTo k p mask (among start)) y)
-      → Columns p mask leave (stagesTo (suc k) p mask (among start)) (p .goals) entries
-      → 2 * (p .states * p .goals) ≤ length entries → (number : ℕ) → number ≡ suc k
-      → (j : ℕ) → j ≤ 2 * p .goals → rowWith number (p .goals) entries x j ≡ getD (oneRow p mask Kept x) j 0
-  unfolding rowWith goes can among
-  new-written leave entries leaves columns room number e j l =
-      by-place j l ∙ sym (ap (λ (ys : List ℕ). getD ys j 0) new-row)
-    where
-      member : (y : ℕ) → isIn y (stagesTo (suc k) p mask (among start)) ≡ true → isIn y start ≡ true
-      member y m = stages-within p mask (among start) (suc k) y m .1
-
-      taken : take (p .goals * 2) (drop (x * (p .goals * 2)) entries) ≡ joined (p .goals) 0 (entryNumbers p mask Kept x)
-      taken =
-          row-reached p mask leave Kept (stage p mask (among start) k) some-goal
-          (stage-sound p mask (among start) some-goal k)
-          (λ y m. ap (λ (v : ℕ). ltb v (p .moves)) (leaves y (member y m)))
-          (λ y m d. leaves y (member y m)) x new-kept new new-stage entries columns
-          (stages-within p mask (among start) (suc k) x new .0) room
-
-      by-place : (j : ℕ) → j ≤ 2 * p .goals → rowWith number (p .goals) entries x j
-          ≡ getD (suc k ∷ joined (p .goals) 0 (entryNumbers p mask Kept x)) j 0
-      by-place zero b = e
-      by-place (suc i) b =
-          let place : 2 * (x * p .goals) + i ≡ x * (p .goals * 2) + i = omega arith in
-          ap (λ (m : ℕ). getD entries m 0) place
-          ∙ sym (getD-drop (x * (p .goals * 2)) entries i 0)
-          ∙ sym (getD-take (p .goals * 2) (drop (x * (p .goals * 2)) entries) i 0 (omega arith))
-          ∙ ap (λ (ys : List ℕ). getD ys i 0) taken
-
--- an array of 16,384 numbers has room for the entries of any plant
-pub scratch-room : (s : List ℕ) → plantFault s ≡ 0 → (states goals : ℕ) → states ≡ plantOf s .states
-    → goals ≡ plantOf s .goals → (entries : List ℕ) → length entries ≡ length (replicate {A = ℕ} 16384 0)
-    → 2 * (states * goals) ≤ length entries
-scratch-room s fine states goals es eg entries long =
-    let most = entries-few s fine in
-    let product : states * goals ≡ plantOf s .states * plantOf s .goals = ap₂ (λ (a b : ℕ). a * b) es eg in
-    omega (arith, long, length-replicate {A = ℕ} 16384 0)

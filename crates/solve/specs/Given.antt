@@ -6,12 +6,12 @@ use lib.Dec.{ltb}
 use lib.ListN.{getD}
 use Rattle.statements.specs.Sets.{numbers, filter}
 use Rattle.statements.specs.Plants.{plantOf, plantFault}
-use Rattle.tables.specs.Table.{Table}
+use Rattle.solve.specs.Tabled.{Tabled}
 
 -- a plant that is accepted, its table for the moves in service, and its number of moves
 pub record Given (plant : List ℕ) (mask : ℕ) (table : List ℕ) (none : ℕ) : Type 0 where
   pub accepted : plantFault plant ≡ 0
-  pub table-is : Table (plantOf plant) mask table
+  pub table-is : Tabled (plantOf plant) mask table
   pub none-is : none ≡ plantOf plant .moves
 
 -- of s states, those whose wait is below a limit

@@ -1,7 +1,7 @@
 -- What the solver's arrays stand for.
+pub mod Tabled
 pub mod Given
 pub mod Reached
-pub mod Reaching
 pub mod Rows
-pub mod Rounds
+pub mod Graphed
 pub mod Stages

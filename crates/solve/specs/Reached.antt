@@ -1,9 +1,8 @@
--- What the reach to a goal within a set leaves in its arrays: for each state the step in which it was reached and the
--- lowest move into what was reached before, or the mark in both.
-use mathlib.Core.Path.{_≡_}
-use mathlib.Core.Bool.{Bool, true, false}
+-- What the reach to a goal within a set comes to: for each state the step in which it is reached and the lowest move into
+-- what was reached before, or the mark in both.
+use mathlib.Core.Bool.{Bool}
 use mathlib.Core.List.{List}
-use Prim.Native.Nat.{ℕ, zero, suc, _<_}
+use Prim.Native.Nat.{ℕ, zero, suc}
 use lib.Dec.{ltb}
 use lib.ListN.{length, getD}
 use Rattle.statements.specs.Sets.{pick, first, iterate, isIn}
@@ -39,8 +38,3 @@ reached p mask leave all i x = pick (isIn x (forced p mask (goes p leave) all i)
 unfoldable pub reachedBy : Plant → ℕ → List ℕ → List ℕ → ℕ → ℕ → ℕ
 reachedBy p mask leave all i x =
     pick (isIn x (forced p mask (goes p leave) all i)) (foundBy p mask leave all i (stepOf p mask leave all i x) x) lostMark
-
--- an array of 1,024 marks: 0 for the states of a set, the mark for all others
-pub record Marks (all member : List ℕ) : Type 0 where
-  pub inside : (x : ℕ) → x < 1024 → isIn x all ≡ true → getD member x 0 ≡ 0
-  pub outside : (x : ℕ) → x < 1024 → isIn x all ≡ false → getD member x 0 ≡ lostMark

@@ -1,51 +1,106 @@
-// The solver: kept states, stages, waits and moves of a plant with moves in service, by rounds of reaches to the goals.
-mod reach;
-mod rounds;
+// The solver: kept states, stages, waits and moves of a plant with moves in service, written as the rows of a book.
+mod rows;
 mod search;
 mod stages;
 
 use arrays::rises;
+use format::plant::book_long;
 use format::plant::settles;
 use format::word::number;
-use rounds::at_once;
+use graph::build;
+use layout::Loaded;
+use rows::Frame;
+use rows::blank;
+use stages::at_once;
 use stages::by_stages;
-use tables::load;
 ghost use mathlib.Core.Path.{_≡_};
-ghost use Rattle.statements.specs.Plants.{plantOf};
-ghost use Rattle.solve.specs.Rows.{rowsLong, solvedCount, solvedRows};
+ghost use mathlib.Core.Bool.{true};
+ghost use Prim.Native.Nat.{_+_, _*_, _≤_};
+ghost use lib.ListN.{length};
+ghost use Rattle.statements.specs.Sets.{numbers};
+ghost use Rattle.statements.specs.Plants.{plantOf, plantFault};
+ghost use Rattle.statements.specs.Kept.{keptWithin};
+ghost use Rattle.arrays.specs.Lists.{among};
+ghost use Rattle.sets.proofs.Members.{Sifted};
+ghost use Rattle.graph.specs.Packed.{Packed};
+ghost use Rattle.layout.specs.Layout.{groupStates, groupEnds};
+ghost use Rattle.solve.specs.Rows.{rowSize, rowsLong, rowsOver, solvedCount, solvedRows};
 
-// How many numbers the rows of a plant's books have.
-pub fn rows_long(plant: &[u8]) -> usize
-    ensures { λ r. ⌜ r ≡ rowsLong (plantOf (now (plant .entry))) ⌝ }
+// The figures of a plant with groups loaded.
+fn frame_of(plant: &[u8], mask: u32, loaded: Loaded) -> Frame
+    requires { ⌜ plantFault (now plant) ≡ 0 ⌝ }
+    ensures { λ r. ⌜ r ≡ record {
+      mask = mask;
+      none = plantOf (now (plant .entry)) .moves;
+      states = plantOf (now (plant .entry)) .states;
+      goals = plantOf (now (plant .entry)) .goals;
+      size = rowSize (plantOf (now (plant .entry)));
+      groups = loaded .groups;
+      positions = loaded .arrows;
+    } ⌝ }
 {
-    let states = number(plant, 0) as usize;
-    let entries = 2 * (states * (number(plant, 2) as usize));
+    let goals = number(plant, 2) as usize;
+    let mut size = 2 * goals;
     if settles(plant) {
-        return entries + states;
+        size += 1;
     }
-    entries
+    Frame {
+        mask: mask,
+        none: number(plant, 1),
+        states: number(plant, 0) as usize,
+        goals: goals,
+        size: size,
+        groups: loaded.groups as usize,
+        positions: loaded.arrows as usize,
+    }
 }
 
-// The rows of the book for a plant, the moves in service and a start: a rising list of states. Returns the number kept.
-// Where the plant is refused, the start is no such list or the entries are too short it returns 65,535 and writes
-// nothing.
-pub fn solve(plant: &[u8], mask: u32, start: &[u16], entries: &mut [u16]) -> u32
-    ensures count { λ r. ⌜ r ≡ solvedCount (now (plant .entry)) mask (now (start .entry)) (now (entries .entry)) ⌝ }
-    ensures rows { λ _. ⌜ now (entries .exit)
-        ≡ solvedRows (now (plant .entry)) mask (now (start .entry)) (now (entries .entry)) ⌝ }
+// The rows of an accepted plant, from what was loaded; returns the number of states kept.
+fn solved(
+    plant: &[u8],
+    mask: u32,
+    loaded: Loaded,
+    table: &[u16],
+    graph: &mut [u16],
+    start: &[u16],
+    out: &mut [u8],
+) -> usize
+    requires accepted { ⌜ plantFault (now plant) ≡ 0 ⌝ }
+    requires loaded { ⌜ (loaded .groups ≡ length (groupStates (plantOf (now plant)) mask))
+        × (loaded .arrows ≡ length (groupEnds (plantOf (now plant)) mask)) ⌝ }
+    requires packed { ⌜ Packed (plantOf (now plant)) mask (now table) (now graph)
+        × ((25602 ≤ length (now table)) × (18433 ≤ length (now graph))) ⌝ }
+    requires set { ⌜ Sifted (numbers (plantOf (now plant) .states) 0) (now start) ⌝ }
+    requires room { ⌜ 16 + 2 * rowsLong (plantOf (now plant)) ≤ length (now out) ⌝ }
+    ensures count { λ r. ⌜ r ≡ length (keptWithin (plantOf (now (plant .entry))) mask (among (now (start .entry)))) ⌝ }
+    ensures rows { λ _. ⌜ now (out .exit) ≡ rowsOver (plantOf (now (plant .entry))) mask
+        (keptWithin (plantOf (now (plant .entry))) mask (among (now (start .entry)))) (now (out .entry)) ⌝ }
+{
+    let frame = frame_of(plant, mask, loaded);
+    blank(plant, frame.states * frame.size, out);
+    if settles(plant) {
+        return by_stages(plant, frame, table, graph, start, out);
+    }
+    at_once(plant, frame, table, graph, start, out)
+}
+
+// Writes the rows of the book for a plant, the moves in service and a start, a rising list of states, behind the header
+// of a book buffer. Returns the number kept. Where the plant is refused, the start is no such list or the buffer is too
+// short it returns 65,535 and writes nothing.
+pub fn solve(plant: &[u8], mask: u32, start: &[u16], out: &mut [u8]) -> u32
+    ensures count { λ r. ⌜ r ≡ solvedCount (now (plant .entry)) mask (now (start .entry)) (now (out .entry)) ⌝ }
+    ensures rows { λ _. ⌜ now (out .exit)
+        ≡ solvedRows (now (plant .entry)) mask (now (start .entry)) (now (out .entry)) ⌝ }
 {
     let states = number(plant, 0) as usize;
-    if !rises(start, states) | (entries.len() < rows_long(plant)) {
+    if !rises(start, states) | (out.len() < book_long(plant)) {
         return 65535;
     }
-    let mut table = [0u16; 25601];
-    if !load(plant, mask, &mut table) {
+    let mut table = [0u16; 25602];
+    let mut graph = [0u16; 18433];
+    let loaded = build(plant, mask, &mut table, &mut graph);
+    if !loaded.fits {
         return 65535;
     }
-    let none = number(plant, 1);
-    let goals = number(plant, 2) as usize;
-    if settles(plant) {
-        return by_stages(plant, mask, &table, none, states, goals, start, entries) as u32;
-    }
-    at_once(plant, mask, &table, none, states, goals, start, entries) as u32
+    solved(plant, mask, loaded, &table, &mut graph, start, out) as u32
 }

@@ -27,23 +27,21 @@ pub(crate) fn search(
         (below (now (waits .entry)) limit (plantOf (now (plant .entry)) .states)) state) ⌝ }
 {
     let x = state as usize;
-    let mut at = table[x] as usize;
+    let mut g = table[x] as usize;
     let last = table[x + 1] as usize;
     let found = 'moves: loop {
-        if last <= at {
+        if last <= g {
             break 'moves none;
         }
-        let action = table[at];
-        let count = table[at + 1] as usize;
-        at += 2;
-        let stop = at + count;
+        let mut at = table[1025 + g] as usize;
+        let stop = table[1026 + g] as usize;
         loop {
             if stop <= at {
-                break 'moves action;
+                break 'moves table[9218 + g];
             }
-            let end = table[at] as usize;
+            let end = table[17410 + at] as usize;
             if limit <= waits[end] {
-                at = stop;
+                g += 1;
                 continue 'moves;
             }
             at += 1;

@@ -1,103 +1,71 @@
-// Stages of a plant that settles, each worked out by rounds with the states that can leave for earlier ones.
-use crate::rounds::settle;
+// Stages of a plant that settles, each worked out as a game with the states that can leave for earlier ones, and the one
+// game of a plant that does not settle.
+use crate::rows::Frame;
+use crate::rows::place;
 use crate::search::search;
 use format::plant::is_settled;
+use game::play::Shape;
+use game::play::work_out;
 ghost use mathlib.Core.Path.{_≡_};
 ghost use mathlib.Core.Bool.{true, false};
-ghost use mathlib.Core.List.{List};
-ghost use Prim.Native.Nat.{ℕ, _+_, _*_, _<_, _≤_};
-ghost use lib.ListN.{length};
-ghost use Rattle.statements.specs.Sets.{numbers};
+ghost use mathlib.Core.List.{List, []};
+ghost use Prim.Native.Nat.{ℕ, _+_, _*_, _%_, _<_, _≤_};
+ghost use lib.ListN.{length, getD, replicate};
+ghost use Rattle.statements.specs.Sets.{pick, numbers};
 ghost use Rattle.statements.specs.Plants.{plantOf};
 ghost use Rattle.statements.specs.Kept.{keptWithin, stagesTo};
 ghost use Rattle.arrays.specs.Lists.{among};
 ghost use Rattle.sets.proofs.Members.{Sifted};
 ghost use Rattle.solve.specs.Given.{Given, below};
-ghost use Rattle.solve.specs.Rows.{writtenRows};
-ghost use Rattle.solve.specs.Stages.{Opened, RowPut, Placed, Blanked, Staged, Calm};
+ghost use Rattle.solve.specs.Graphed.{Graphed, Exits};
+ghost use Rattle.solve.specs.Rows.{rowSize, rowsLong, Rowed};
+ghost use Rattle.solve.specs.Stages.{Opened, Staged, Calm};
 
-// Writes a mark over each of the first numbers.
-fn blank(count: usize, rows: &mut [u16])
-    requires { ⌜ count ≤ length (now rows) ⌝ }
-    ensures { λ _. ⌜ Blanked count (now (rows .entry)) (now (rows .exit)) ⌝ }
+// A label whose bit 15 says whether the state leaves.
+fn marked(label: u16, leaves: bool) -> u16
+    ensures { λ r. ⌜ r ≡ label % 32768 + pick leaves 32768 0 ⌝ }
 {
-    let mut k = 0;
-    while k < count {
-        rows[k] = 65535;
-        k += 1;
+    let plain = label % 32768;
+    if leaves {
+        return plain + 32768;
     }
+    plain
 }
 
-// Writes a state's row to its place: its stage, then its entries.
-fn put_row(from: &[u16], goals: usize, number: u16, state: usize, rows: &mut [u16])
-    requires small { ⌜ (state ≤ 1024) × (2 * (state * goals) + 2 * goals ≤ length (now from)) ⌝ }
-    requires room { ⌜ 2 * (state * goals) + state + 2 * goals < length (now rows) ⌝ }
-    ensures { λ _. ⌜ RowPut number goals (2 * goals) (now (from .entry)) state (now (rows .entry)) (now (rows .exit)) ⌝ }
-{
-    let left = 2 * (state * goals);
-    let at = left + state;
-    rows[at] = number;
-    let mut j = 0;
-    while j < 2 * goals {
-        rows[at + 1 + j] = from[left + j];
-        j += 1;
-    }
-}
-
-// Gives the states of a list that have no stage yet the number for their stage, and writes their rows.
-fn place(
-    list: &[u16],
-    number: u16,
-    states: usize,
-    goals: usize,
-    from: &[u16],
-    stage: &mut [u16],
-    rows: &mut [u16],
-)
-    requires set { ⌜ Sifted (numbers states 0) (now list) ⌝ }
-    requires small { ⌜ (states ≤ 1024) × (number < 65535) ⌝ }
-    requires room { ⌜ (2 * (states * goals) ≤ length (now from))
-        × (2 * (states * goals) + states ≤ length (now rows)) × (states ≤ length (now stage)) ⌝ }
-    ensures { λ _. ⌜ Placed states (now (list .entry)) number goals (now (from .entry)) (now (stage .entry))
-        (now (rows .entry)) (now (stage .exit)) (now (rows .exit)) ⌝ }
-{
-    let mut k = 0;
-    while k < list.len() {
-        let x = list[k] as usize;
-        if stage[x] == 65535 {
-            stage[x] = number;
-            put_row(from, goals, number, x, rows);
-        }
-        k += 1;
-    }
-}
-
-// The moves of the states of a start into those that have a stage, and the states that the next stage may pass: those
-// with such a move, and the settled ones. Returns their number.
+// The moves of the states of a start into those that have a stage, marked in their labels, and the states that the next
+// stage may pass: those with such a move, and the settled ones. Returns their number.
 fn admit(
     plant: &[u8],
-    mask: u32,
+    frame: Frame,
     table: &[u16],
-    none: u16,
     start: &[u16],
     stage: &[u16],
     leave: &mut [u16],
     all: &mut [u16],
+    graph: &mut [u16],
 ) -> usize
-    requires given { ⌜ Given (now plant) mask (now table) none ⌝ }
+    requires given { ⌜ Given (now plant) (frame .mask) (now table) (frame .none) ⌝ }
     requires set { ⌜ Sifted (numbers (plantOf (now plant) .states) 0) (now start) ⌝ }
     requires room { ⌜ (plantOf (now plant) .states ≤ length (now stage))
         × (plantOf (now plant) .states ≤ length (now leave)) × (length (now start) ≤ length (now all)) ⌝ }
-    ensures { λ r. ⌜ Opened (plantOf (now (plant .entry))) mask (now (start .entry))
+    requires graphed { ⌜ Graphed (plantOf (now plant)) (frame .mask) (frame .groups) (frame .positions) (now graph) ⌝ }
+    ensures opened { λ r. ⌜ Opened (plantOf (now (plant .entry))) (frame .mask) (now (start .entry))
         (below (now (stage .entry)) 65535 (plantOf (now (plant .entry)) .states))
         (now (leave .exit)) (now (all .exit)) r ⌝ }
+    ensures graphed { λ _. ⌜ Graphed (plantOf (now (plant .entry))) (frame .mask) (frame .groups) (frame .positions)
+        (now (graph .exit)) ⌝ }
+    ensures exits { λ _. ⌜ Exits (plantOf (now (plant .entry))) (now (leave .exit)) (now (start .entry))
+        (now (graph .exit)) ⌝ }
 {
+    let none = frame.none;
     let mut k = 0;
     let mut count = 0;
     while k < start.len() {
         let state = start[k];
-        let away = search(plant, mask, table, none, stage, 65535, state);
-        leave[state as usize] = away;
+        let x = state as usize;
+        let away = search(plant, frame.mask, table, none, stage, 65535, state);
+        leave[x] = away;
+        graph[17409 + x] = marked(graph[17409 + x], away < none);
         if is_settled(plant, state as u32) | (away < none) {
             all[count] = state;
             count += 1;
@@ -128,97 +96,148 @@ fn grows(plant: &[u8], mask: u32, table: &[u16], none: u16, start: &[u16], stage
     false
 }
 
+// How many nodes, groups, positions and goals the game of a plant has.
+fn shape(frame: Frame) -> Shape
+    ensures { λ r. ⌜ r ≡ record {
+      nodes = frame .states;
+      groups = frame .groups;
+      positions = frame .positions;
+      goals = frame .goals;
+    } ⌝ }
+{
+    Shape {
+        nodes: frame.states,
+        groups: frame.groups,
+        positions: frame.positions,
+        goals: frame.goals,
+    }
+}
+
 // One stage more: works out which states the stages then have, gives the new ones their stage and writes their rows.
 // Returns how many states the stages have.
 fn advance(
     plant: &[u8],
-    mask: u32,
+    frame: Frame,
     table: &[u16],
-    none: u16,
-    states: usize,
-    goals: usize,
+    graph: &mut [u16],
     start: &[u16],
     done: u16,
     stage: &mut [u16],
-    rows: &mut [u16],
+    out: &mut [u8],
 ) -> usize
-    requires given { ⌜ Given (now plant) mask (now table) none ⌝ }
-    requires sizes { ⌜ (states ≡ plantOf (now plant) .states) × (goals ≡ plantOf (now plant) .goals) ⌝ }
+    requires given { ⌜ Given (now plant) (frame .mask) (now table) (frame .none) ⌝ }
+    requires framed { ⌜ (frame .states ≡ plantOf (now plant) .states) × ((frame .goals ≡ plantOf (now plant) .goals)
+        × (frame .size ≡ rowSize (plantOf (now plant)))) ⌝ }
     requires settling { ⌜ plantOf (now plant) .settles ≡ true ⌝ }
+    requires graphed { ⌜ Graphed (plantOf (now plant)) (frame .mask) (frame .groups) (frame .positions) (now graph) ⌝ }
     requires set { ⌜ Sifted (numbers (plantOf (now plant) .states) 0) (now start) ⌝ }
-    requires room { ⌜ (2 * (states * goals) + states ≤ length (now rows)) × (states ≤ length (now stage)) × (done < 65534) ⌝ }
+    requires room { ⌜ (16 + 2 * rowsLong (plantOf (now plant)) ≤ length (now out))
+        × ((plantOf (now plant) .states ≤ length (now stage)) × (done < 65534)) ⌝ }
+    ensures graphed { λ _. ⌜ Graphed (plantOf (now (plant .entry))) (frame .mask) (frame .groups) (frame .positions)
+        (now (graph .exit)) ⌝ }
     ensures staged { λ _. ⌜ ((old : List ℕ) →
-        Staged (plantOf (now (plant .entry))) mask (now (start .entry)) done (now (stage .entry)) old (now (rows .entry))
-        → Staged (plantOf (now (plant .entry))) mask (now (start .entry)) (done + 1) (now (stage .exit)) old
-        (now (rows .exit))) ⌝ }
+        Staged (plantOf (now (plant .entry))) (frame .mask) (now (start .entry)) done (now (stage .entry)) old
+        (now (out .entry))
+        → Staged (plantOf (now (plant .entry))) (frame .mask) (now (start .entry)) (done + 1) (now (stage .exit)) old
+        (now (out .exit))) ⌝ }
     ensures count { λ r. ⌜ ((old : List ℕ) →
-        Staged (plantOf (now (plant .entry))) mask (now (start .entry)) done (now (stage .entry)) old (now (rows .entry))
-        → r ≡ length (stagesTo (done + 1) (plantOf (now (plant .entry))) mask (among (now (start .entry))))) ⌝ }
+        Staged (plantOf (now (plant .entry))) (frame .mask) (now (start .entry)) done (now (stage .entry)) old
+        (now (out .entry))
+        → r ≡ length (stagesTo (done + 1) (plantOf (now (plant .entry))) (frame .mask) (among (now (start .entry))))) ⌝ }
 {
     let mut leave = [65535u16; 1024];
     let mut all = [0u16; 1024];
-    let count = admit(plant, mask, table, none, start, stage, &mut leave, &mut all);
-    let mut entries = [0u16; 16384];
-    let kept = settle(
+    let count = admit(
         plant,
-        mask,
+        frame,
         table,
-        none,
-        states,
-        goals,
-        &leave,
+        start,
+        stage,
+        &mut leave,
         &mut all,
-        count,
-        &mut entries,
+        graph,
     );
-    place(&all[..kept], done + 1, states, goals, &entries, stage, rows);
+    let mut waits = [0u16; 8192];
+    let kept = work_out(graph, shape(frame), &all[..count], &mut waits);
+    place(plant, frame, table, &waits, &leave, done + 1, stage, out);
     kept
 }
 
-// The rows of a plant that settles, stage by stage until one adds no state; returns the number of states kept.
+// The rows of a plant that settles, over marks, stage by stage until one adds no state; returns the number of states
+// kept.
 pub(crate) fn by_stages(
     plant: &[u8],
-    mask: u32,
+    frame: Frame,
     table: &[u16],
-    none: u16,
-    states: usize,
-    goals: usize,
+    graph: &mut [u16],
     start: &[u16],
-    rows: &mut [u16],
+    out: &mut [u8],
 ) -> usize
-    requires given { ⌜ Given (now plant) mask (now table) none ⌝ }
-    requires sizes { ⌜ (states ≡ plantOf (now plant) .states) × (goals ≡ plantOf (now plant) .goals) ⌝ }
+    requires given { ⌜ Given (now plant) (frame .mask) (now table) (frame .none) ⌝ }
+    requires framed { ⌜ (frame .states ≡ plantOf (now plant) .states) × ((frame .goals ≡ plantOf (now plant) .goals)
+        × (frame .size ≡ rowSize (plantOf (now plant)))) ⌝ }
     requires settling { ⌜ plantOf (now plant) .settles ≡ true ⌝ }
+    requires graphed { ⌜ Graphed (plantOf (now plant)) (frame .mask) (frame .groups) (frame .positions) (now graph) ⌝ }
     requires set { ⌜ Sifted (numbers (plantOf (now plant) .states) 0) (now start) ⌝ }
-    requires room { ⌜ 2 * (states * goals) + states ≤ length (now rows) ⌝ }
-    ensures count { λ r. ⌜ r ≡ length (keptWithin (plantOf (now (plant .entry))) mask (among (now (start .entry)))) ⌝ }
-    ensures rows { λ _. ⌜ now (rows .exit) ≡ writtenRows (plantOf (now (plant .entry))) mask
-        (keptWithin (plantOf (now (plant .entry))) mask (among (now (start .entry)))) (now (rows .entry)) ⌝ }
+    requires room { ⌜ 16 + 2 * rowsLong (plantOf (now plant)) ≤ length (now out) ⌝ }
+    requires marks { ⌜ ((old : List ℕ) × Rowed (plantOf (now plant)) (frame .mask)
+        (keptWithin (plantOf (now plant)) (frame .mask) (among (now start))) [] old (now out)) ⌝ }
+    ensures count { λ r. ⌜ r ≡ length (keptWithin (plantOf (now (plant .entry))) (frame .mask)
+        (among (now (start .entry)))) ⌝ }
+    ensures rows { λ _. ⌜ ((old : List ℕ) →
+        Rowed (plantOf (now (plant .entry))) (frame .mask)
+        (keptWithin (plantOf (now (plant .entry))) (frame .mask) (among (now (start .entry)))) [] old (now (out .entry))
+        → Rowed (plantOf (now (plant .entry))) (frame .mask)
+        (keptWithin (plantOf (now (plant .entry))) (frame .mask) (among (now (start .entry))))
+        (keptWithin (plantOf (now (plant .entry))) (frame .mask) (among (now (start .entry)))) old (now (out .exit))) ⌝ }
 {
     let mut stage = [65535u16; 1024];
-    blank(2 * (states * goals) + states, rows);
     let mut done: u16 = 0;
     let mut kept = 0;
     loop {
-        if (0 < done) & !grows(plant, mask, table, none, start, &stage) {
+        if (0 < done) & !grows(plant, frame.mask, table, frame.none, start, &stage) {
             return kept;
         }
-        let more = advance(
-            plant,
-            mask,
-            table,
-            none,
-            states,
-            goals,
-            start,
-            done,
-            &mut stage,
-            rows,
-        );
+        let more = advance(plant, frame, table, graph, start, done, &mut stage, out);
         if more <= kept {
             return kept;
         }
         kept = more;
         done += 1;
     }
+}
+
+// The rows of a plant that does not settle, over marks: one game from the start, no state leaving. Returns the number
+// of states kept.
+pub(crate) fn at_once(
+    plant: &[u8],
+    frame: Frame,
+    table: &[u16],
+    graph: &[u16],
+    start: &[u16],
+    out: &mut [u8],
+) -> usize
+    requires given { ⌜ Given (now plant) (frame .mask) (now table) (frame .none) ⌝ }
+    requires framed { ⌜ (frame .states ≡ plantOf (now plant) .states) × ((frame .goals ≡ plantOf (now plant) .goals)
+        × (frame .size ≡ rowSize (plantOf (now plant)))) ⌝ }
+    requires plain { ⌜ plantOf (now plant) .settles ≡ false ⌝ }
+    requires graphed { ⌜ Graphed (plantOf (now plant)) (frame .mask) (frame .groups) (frame .positions) (now graph)
+        × Exits (plantOf (now plant)) (replicate 1024 65535) (now start) (now graph) ⌝ }
+    requires set { ⌜ Sifted (numbers (plantOf (now plant) .states) 0) (now start) ⌝ }
+    requires room { ⌜ 16 + 2 * rowsLong (plantOf (now plant)) ≤ length (now out) ⌝ }
+    ensures count { λ r. ⌜ r ≡ length (keptWithin (plantOf (now (plant .entry))) (frame .mask)
+        (among (now (start .entry)))) ⌝ }
+    ensures rows { λ _. ⌜ ((old : List ℕ) →
+        Rowed (plantOf (now (plant .entry))) (frame .mask)
+        (keptWithin (plantOf (now (plant .entry))) (frame .mask) (among (now (start .entry)))) [] old (now (out .entry))
+        → Rowed (plantOf (now (plant .entry))) (frame .mask)
+        (keptWithin (plantOf (now (plant .entry))) (frame .mask) (among (now (start .entry))))
+        (keptWithin (plantOf (now (plant .entry))) (frame .mask) (among (now (start .entry)))) old (now (out .exit))) ⌝ }
+{
+    let mut waits = [0u16; 8192];
+    let kept = work_out(graph, shape(frame), start, &mut waits);
+    let leave = [65535u16; 1024];
+    let mut stage = [65535u16; 1024];
+    place(plant, frame, table, &waits, &leave, 1, &mut stage, out);
+    kept
 }

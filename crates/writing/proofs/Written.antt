@@ -4,38 +4,27 @@ use mathlib.Core.Path.{_≡_, refl, sym, ap, ap₂, _∙_}
 use mathlib.Core.Logic.{inl, inr}
 use mathlib.Core.Bool.{Bool, true, false}
 use mathlib.Core.List.{List, [], _∷_, _++_, append-assoc, append-nil}
-use Prim.Native.Nat.{ℕ, zero, suc, _+_, _*_, _/_, _%_, _≤_, _<_}
+use Prim.Native.Nat.{ℕ, _+_, _*_, _/_, _%_, _≤_, _<_}
 use native.Mathlib.Numerals.{add-one}
 use native.Mathlib.Omega.{arith}
 use lib.ListN.{length, getD, take, drop, length-append, take-append-drop}
-use lib.Seq.{sets, take-suc, take-all, length-take-le}
+use lib.Seq.{sets, take-suc, take-all, length-take-le, drop-at}
 use Rattle.statements.specs.Sets.{pick, joined, isIn, over}
 use Rattle.statements.specs.Plants.{Plant}
 use Rattle.statements.specs.Kept.{stageOf}
 use Rattle.statements.specs.Books.{two, bytesOf, lostMark, bookLong, entryOf, stagePart, rowOf, headOf, bookBytes}
-use Rattle.solve.specs.Rows.{entryNumbers, stageNumbers, oneRow, rowNumbers, rowsLong}
+use Rattle.solve.specs.Rows.{entryNumbers, stageNumbers, oneRow, rowNumbers, rowSize, rowsLong, rowsOver}
 use Rattle.sets.proofs.Tests.{decided}
 use Rattle.sets.proofs.Joined.{joined-length, joined-same}
-use Rattle.sets.proofs.Over.{over-length, over-more, over-after}
+use Rattle.sets.proofs.Over.{over-length, over-more}
 use Rattle.decoding.proofs.Sizes.{bytes-length}
-
--- the bytes of one list's numbers, then of another's
-pub bytes-append : (xs ys : List ℕ) → bytesOf (xs ++ ys) ≡ bytesOf xs ++ bytesOf ys
-unfolding bytesOf
-bytes-append [] ys = refl
-bytes-append (x ∷ xs) ys = rw (bytes-append xs ys, append-assoc)
+use Rattle.solve.proofs.RowBytes.{bytes-append, bytes-joined}
+use Rattle.solve.proofs.RowMarks.{one-size}
 
 -- one number more
 pub bytes-more : (xs : List ℕ) (v : ℕ) → bytesOf (xs ++ (v ∷ [])) ≡ bytesOf xs ++ two v
 unfolding bytesOf two
 bytes-more xs v = bytes-append xs (v ∷ [])
-
--- of lists put one after the other
-pub bytes-joined : (part : ℕ → List ℕ) (n x : ℕ) → bytesOf (joined n x part) ≡ joined n x (λ k. bytesOf (part k))
-unfolding joined bytesOf
-bytes-joined part zero x = refl
-bytes-joined part (suc n) x =
-    bytes-append (part x) _ ∙ ap (λ (ys : List ℕ). bytesOf (part x) ++ ys) (bytes-joined part n (suc x))
 
 -- one number more, stored after the bytes written
 pub put-more : (xs o : List ℕ) (at v : ℕ) {o′ o″ : List ℕ} → o′ ≡ over xs o → at ≡ length xs → at + 2 ≤ length o
@@ -101,6 +90,14 @@ module _ {numbers : List ℕ} {from : ℕ} {o o′ : List ℕ} {at k : ℕ} (r :
       ∙ ap (λ (ys : List ℕ). over (take from o ++ bytesOf ys) o) (take-all k numbers h)
       ∙ rw (long, append-assoc)
 
+-- numbers written before others
+over-before : (xs ys old : List ℕ) → length xs ≤ length old
+    → over xs (take (length xs) old ++ (ys ++ drop (length xs + length ys) old)) ≡ over (xs ++ ys) old
+unfolding over
+over-before xs ys old h =
+    let rest = ys ++ drop (length xs + length ys) old in
+    rw (drop-at (take (length xs) old) rest (length xs) (length-take-le (length xs) old h), length-append, append-assoc)
+
 -- a book's header, stored as eight numbers
 pub head-stored : (p : Plant) (mask : ℕ) (kept o : List ℕ) (s u n k : ℕ) {o′ : List ℕ} → s ≡ p .states → u ≡ p .moves
     → n ≡ p .goals → k ≡ length kept → (long : ℕ) → long ≡ bookLong (p .settles) (p .states) (p .goals)
@@ -109,16 +106,6 @@ pub head-stored : (p : Plant) (mask : ℕ) (kept o : List ℕ) (s u n k : ℕ) {
     → o′ ≡ over (headOf p mask kept) o
 unfolding headOf bytesOf two over
 head-stored p mask kept o s u n k es eu en ek long el w = w ∙ rw (el, es, eu, en, ek)
-
--- a book is its header's 16 bytes and two for each number of its rows
-long-by : (t : Bool) (s n : ℕ) → bookLong t s n ≡ 16 + 2 * pick t (2 * (s * n) + s) (2 * (s * n))
-unfolding bookLong
-long-by true s n = omega arith
-long-by false s n = omega arith
-
-pub long-rows : (p : Plant) → bookLong (p .settles) (p .states) (p .goals) ≡ 16 + 2 * rowsLong p
-unfolding rowsLong
-long-rows p = long-by (p .settles) (p .states) (p .goals)
 
 module _ (p : Plant) (mask : ℕ) (kept : List ℕ) where
   -- an entry's bytes are those of its two numbers, and a row's those of its entries
@@ -151,32 +138,19 @@ module _ (p : Plant) (mask : ℕ) (kept : List ℕ) where
       ∙ joined-same _ _ (p .states) 0 (λ x l h. row-split x) in
       ap (λ (ys : List ℕ). headOf p mask kept ++ ys) (sym rows)
 
-  -- as many numbers as two for each state and goal, and one for each state where there are stages
-  entry-count : (x i : ℕ) → length (entryNumbers p mask kept x i) ≡ 2
-  unfolding entryNumbers
-  entry-count x i = elim (decided (isIn x kept)) [ inl h ↦ rw h | inr h ↦ rw h ]
+  -- as many numbers as all rows have
+  rows-count : length (rowNumbers p mask kept) ≡ rowsLong p
+  unfolding rowNumbers rowsLong
+  rows-count = joined-length (oneRow p mask kept) (rowSize p) (one-size p mask kept) (p .states) 0
 
-  row-by : (t : Bool) (v x : ℕ) → length (pick t (v ∷ []) [] ++ joined (p .goals) 0 (entryNumbers p mask kept x))
-      ≡ pick t 1 0 + p .goals * 2
-  row-by true v x = omega (arith, joined-length (entryNumbers p mask kept x) 2 (entry-count x) (p .goals) 0)
-  row-by false v x = omega (arith, joined-length (entryNumbers p mask kept x) 2 (entry-count x) (p .goals) 0)
-
-  total-by : (t : Bool) (s n : ℕ) → s * (pick t 1 0 + n * 2) ≡ pick t (2 * (s * n) + s) (2 * (s * n))
-  total-by true s n = omega arith
-  total-by false s n = omega arith
-
-  pub rows-count : length (rowNumbers p mask kept) ≡ rowsLong p
-  unfolding rowNumbers oneRow stageNumbers rowsLong
-  rows-count =
-      joined-length (oneRow p mask kept) (pick (p .settles) 1 0 + p .goals * 2)
-      (λ x. row-by (p .settles) (pick (isIn x kept) (stageOf p mask kept x) lostMark) x) (p .states) 0
-      ∙ total-by (p .settles) (p .states) (p .goals)
-
-  -- the header written, then the rows
-  pub book-written : (rows o : List ℕ) {o₁ o₂ : List ℕ} → o₁ ≡ over (headOf p mask kept) o
-      → o₂ ≡ take 16 o₁ ++ (bytesOf rows ++ drop (16 + 2 * length rows) o₁) → rows ≡ rowNumbers p mask kept
-      → o₂ ≡ over (bookBytes p mask kept) o
-  unfolding headOf two
-  book-written rows o {o₁} e₁ e₂ er =
-      e₂ ∙ rw (← bytes-length) (over-after (headOf p mask kept) (bytesOf rows) o e₁)
-      ∙ ap (λ (ys : List ℕ). over ys o) (ap (λ (xs : List ℕ). headOf p mask kept ++ bytesOf xs) er ∙ sym book-split)
+  -- the rows written, and then the header before them
+  pub book-written : (o : List ℕ) {o₁ o₂ : List ℕ} → 16 ≤ length o → o₁ ≡ rowsOver p mask kept o
+      → o₂ ≡ over (headOf p mask kept) o₁ → o₂ ≡ over (bookBytes p mask kept) o
+  unfolding rowsOver headOf two
+  book-written o room e₁ e₂ =
+      let rows = bytesOf (rowNumbers p mask kept) in
+      let many : 2 * rowsLong p ≡ length rows = omega (arith, rows-count, bytes-length (rowNumbers p mask kept)) in
+      e₂
+      ∙ ap (over (headOf p mask kept)) (e₁ ∙ ap (λ (n : ℕ). take 16 o ++ (rows ++ drop (16 + n) o)) many)
+      ∙ over-before (headOf p mask kept) rows o room
+      ∙ ap (λ (ys : List ℕ). over ys o) (sym book-split)

@@ -67,14 +67,11 @@ pub fn book(plant: &[u8], mask: u32, start: &[u16], out: &mut [u8]) -> u32
     if out.len() < long {
         return 0;
     }
-    let mut rows = [0u16; 17408];
-    let kept = solve(plant, mask, start, &mut rows);
+    let kept = solve(plant, mask, start, out);
     if kept == 65535 {
         return 0;
     }
     head(plant, mask, kept as u16, out);
-    let count = (long - 16) / 2;
-    put_all(&rows[..count], 16, out);
     long as u32
 }
 

@@ -2,14 +2,19 @@
 -- making. Assumes nothing.
 use denote.Ref.{now}
 use mathlib.Core.Path.{_≡_, sym, _∙_}
+use mathlib.Core.Bool.{true}
 use lib.ListN.{length}
-use Rattle.statements.specs.Calls.{makeFault}
-use Rattle.decoding.proofs.Faults.{make-ok}
-use Rattle.books.proofs.Made.{make-refused, make-done}
+use borrow.Author.Tests.{not-true, not-false}
+use Rattle.refusals.specs.ButArrows.{makeButArrows}
+use Rattle.refusals.proofs.ButArrows.{make-parts}
+use Rattle.books.proofs.Answered.{make-refused, make-3, make-done}
 use Rattle.promises.proofs.Demands.{of-make}
 use borrow.Author.Needs.{needs}
 use Rattle.books.proofs.make_book.Statement.{statement}
 use Rattle.books.proofs.make_book.Tie as tie
+
+make-but-arrows-requires : tie.Need-make-but-arrows-requires
+make-but-arrows-requires c κs = search needs
 
 make-requires : tie.Need-make-requires
 make-requires c κs = search needs
@@ -19,34 +24,53 @@ refused-requires c κs = search needs
 
 returns : tie.Need-returns
 returns c =
-    let e = c .before in
-    let a = e .before .before .before .before .args in (
-      make-refused (now (a .plant)) (a .mask) (now (a .out)) _ (c .refused .ensures) (e .before .make .ensures)
-          (e .if1 .taken),
+    let n = c .before in
+    let e = n .before in
+    let t = e .before in
+    let a = t .before .before .before .args in (
+      make-refused (now (a .plant)) (a .mask) (now (a .out)) _ (c .refused .ensures) (n .make .ensures)
+          (sym (t .make-but-arrows .ensures) ∙ not-true (t .make-but-arrows .result) (e .if1 .taken)),
       of-make,
     )
 
--- past the test the call is accepted
-fine : (c : tie.Else1)
+-- past the test the call passes all checks but that of the arrows
+passes : (c : tie.Else1)
     → let a = c .before .before .before .before .args in
-    makeFault (now (a .plant)) (a .mask) (length (now (a .out))) ≡ 0
-fine c = sym (c .before .make .ensures) ∙ c .if1 .left
+    makeButArrows (now (a .plant)) (a .mask) (length (now (a .out))) ≡ true
+passes c =
+    let t = c .before in
+    sym (t .make-but-arrows .ensures) ∙ not-false (t .make-but-arrows .result) (c .if1 .left)
 
 book-requires : tie.Need-book-requires
-book-requires c κs =
-    let a = c .before .before .before .before .before .args in
-    let ok = make-ok (now (a .plant)) (a .mask) (length (now (a .out))) (fine (c .before)) in
-    (ok .plant, ok .room-ok)
+book-requires c κs = let parts = make-parts _ _ _ (passes (c .before)) in (parts .0, parts .2)
+
+refused-requires-2 : tie.Need-refused-requires-2
+refused-requires-2 c κs = search needs
 
 same-length : tie.Need-same-length
 same-length c = search needs
 
 returns-2 : tie.Need-returns-2
 returns-2 c =
-    let k = c .before .before in
+    let z = c .before in
+    let k = z .before .before .before in
     let e = k .before .before in
     let a = e .before .before .before .before .args in (
-      make-done (now (a .plant)) (a .mask) (now (a .out)) _ (fine e) (k .book .ensures .0) (k .book .ensures .1),
+      make-3 (now (a .plant)) (a .mask) (now (a .out)) _ (passes e) (k .book .ensures .0) (k .book .ensures .1)
+          (z .if2 .taken) (c .refused2 .ensures),
+      of-make,
+    )
+
+same-length-2 : tie.Need-same-length-2
+same-length-2 c = search needs
+
+returns-3 : tie.Need-returns-3
+returns-3 c =
+    let k = c .before .before .before in
+    let e = k .before .before in
+    let a = e .before .before .before .before .args in (
+      make-done (now (a .plant)) (a .mask) (now (a .out)) _ (passes e) (k .book .ensures .0) (k .book .ensures .1)
+          (c .if2 .left),
       of-make,
     )
 
@@ -54,9 +78,13 @@ pub make-book-spec : {M : Type 1} → statement M
 make-book-spec =
     tie.close
     (tie.spec
+    make-but-arrows-requires
     make-requires
     refused-requires
     returns
     book-requires
+    refused-requires-2
     same-length
-    returns-2)
+    returns-2
+    same-length-2
+    returns-3)

@@ -1,19 +1,28 @@
 -- `books::return_moves` meets its contract: a refused call changes nothing; an accepted one writes the book of a make
 -- with the old mask and the moves returned, and lists the states kept in it and lost in the old book. Assumes nothing.
 use mathlib.Core.Path.{_≡_, sym, _∙_}
+use mathlib.Core.Bool.{true}
 use Prim.Native.Nat.{_≤_}
 use native.Mathlib.Omega.{arith}
 use denote.Ref.{now}
 use lib.ListN.{length}
 use lib.Seq.{length-take-le}
+use lib.Bits.{bitOr}
+use borrow.Author.Tests.{not-true, not-false}
 use Rattle.statements.specs.Plants.{plantOf}
-use Rattle.statements.specs.Calls.{returnFault}
-use Rattle.decoding.proofs.Faults.{WithdrawOk, withdraw-ok}
-use Rattle.books.proofs.Made.{made-fits, writes-refused, return-done}
+use Rattle.statements.specs.Calls.{bookRoom}
+use Rattle.format.specs.Checks.{arrowsFine}
+use Rattle.refusals.specs.ButArrows.{plantButArrows, withdrawButArrows}
+use Rattle.refusals.proofs.ButArrows.{make-parts, withdraw-passes}
+use Rattle.books.proofs.Made.{made-fits}
+use Rattle.books.proofs.Answered.{withdraw-refused, return-3, return-done}
 use Rattle.promises.proofs.Demands.{of-return}
 use borrow.Author.Needs.{needs}
 use Rattle.books.proofs.return_moves.Statement.{statement}
 use Rattle.books.proofs.return_moves.Tie as tie
+
+withdraw-but-arrows-requires : tie.Need-withdraw-but-arrows-requires
+withdraw-but-arrows-requires c κs = search needs
 
 withdraw-requires : tie.Need-withdraw-requires
 withdraw-requires c κs = search needs
@@ -23,14 +32,15 @@ refused-requires c κs = search needs
 
 returns : tie.Need-returns
 returns c =
-    let e = c .before in
-    let a = e .before .before .before .before .before .before .args in
-    let fault =
-    returnFault (now (a .plant)) (now (a .book)) (a .mask) (length (now (a .out))) (length (now (a .gained))) in (
+    let n = c .before in
+    let e = n .before in
+    let t = e .before in
+    let a = t .before .before .before .before .before .args in (
       record {
         writes =
-            writes-refused _ fault _ _ (now (a .out)) (now (a .gained)) (c .refused .ensures)
-            (e .before .withdraw .ensures) (e .if1 .taken);
+            withdraw-refused (now (a .plant)) (now (a .book)) (a .mask) (now (a .out)) (now (a .gained)) _
+            (c .refused .ensures) (n .withdraw .ensures)
+            (sym (t .withdraw-but-arrows .ensures) ∙ not-true (t .withdraw-but-arrows .result) (e .if1 .taken));
       },
       of-return,
     )
@@ -38,30 +48,54 @@ returns c =
 mask-requires : tie.Need-mask-requires
 mask-requires c κs = search needs
 
--- past the test the call is accepted
-fine : (c : tie.Else1)
+-- past the test the call passes all checks but that of the arrows
+passes : (c : tie.Else1)
     → let a = c .before .before .before .before .before .before .args in
-    returnFault (now (a .plant)) (now (a .book)) (a .mask) (length (now (a .out))) (length (now (a .gained))) ≡ 0
-fine c = sym (c .before .withdraw .ensures) ∙ c .if1 .left
+    withdrawButArrows (now (a .plant)) (now (a .book)) (a .mask) (length (now (a .out))) (length (now (a .gained)))
+    ≡ true
+passes c =
+    let t = c .before in
+    sym (t .withdraw-but-arrows .ensures) ∙ not-false (t .withdraw-but-arrows .result) (c .if1 .left)
 
-ok : (c : tie.Else1)
+-- its plant does, and there is room for the book
+ready : (c : tie.Else1)
     → let a = c .before .before .before .before .before .before .args in
-    WithdrawOk (now (a .plant)) (now (a .book)) (a .mask) (length (now (a .out))) (length (now (a .gained)))
-ok c =
-    let a = c .before .before .before .before .before .before .args in
-    withdraw-ok (now (a .plant)) (now (a .book)) (a .mask) (length (now (a .out))) (length (now (a .gained))) (fine c)
+    (plantButArrows (now (a .plant)) ≡ true) × (bookRoom (plantOf (now (a .plant))) (length (now (a .out))) ≡ true)
+ready c =
+    let parts = make-parts _ _ _ (withdraw-passes _ _ _ _ _ (passes c) .make) in
+    (parts .0, parts .2)
 
 book-requires : tie.Need-book-requires
-book-requires c κs = let e = c .before .before in (ok e .lent .plant, ok e .room-ok)
+book-requires c κs = ready (c .before .before)
+
+refused-requires-2 : tie.Need-refused-requires-2
+refused-requires-2 c κs = search needs
+
+same-length : tie.Need-same-length
+same-length c = search needs
+
+returns-2 : tie.Need-returns-2
+returns-2 c =
+    let z = c .before in
+    let k = z .before .before .before in
+    let m = k .before .before in
+    let a = m .before .before .before .before .before .before .before .args in (
+      return-3 (now (a .plant)) (now (a .book)) (a .mask) (now (a .out)) (now (a .gained)) _ _ (passes (m .before))
+          (m .mask .ensures) (k .book .ensures .0) (k .book .ensures .1) (z .if2 .taken) (c .refused2 .ensures),
+      of-return,
+    )
 
 -- the book written is no longer than its buffer
 within : (c : tie.After-book) → c .book .result ≤ length (c .book .last .1 .1 .0)
 within c =
-    let e = c .before .before .before in
+    let m = c .before .before in
+    let e = m .before in
     let a = e .before .before .before .before .before .before .args in
+    let p = plantOf (now (a .plant)) in
     omega (
       arith,
-      made-fits (plantOf (now (a .plant))) _ (length (now (a .out))) (ok e .room-ok) (c .book .ensures .0),
+      made-fits p (bitOr (m .mask .result) (a .mask)) (arrowsFine p) (length (now (a .out))) (ready e .1)
+          (c .book .ensures .0),
       c .book .kept .1 .1 .0,
     )
 
@@ -69,27 +103,30 @@ cast-dropped : tie.Need-cast-dropped
 cast-dropped c = search needs
 
 slice-reshare-prefix-dropped : tie.Need-slice-reshare-prefix-dropped
-slice-reshare-prefix-dropped c = within (c .before .before)
+slice-reshare-prefix-dropped c = within (c .before .before .before)
 
 slice-aggregate-dropped : tie.Need-slice-aggregate-dropped
-slice-aggregate-dropped c = sym (length-take-le _ _ (within (c .before .before .before)))
+slice-aggregate-dropped c = sym (length-take-le _ _ (within (c .before .before .before .before)))
 
 dropped-requires : tie.Need-dropped-requires
 dropped-requires c κs = search needs
 
-same-length : tie.Need-same-length
-same-length c = search needs
-
 same-length-2 : tie.Need-same-length-2
 same-length-2 c = search needs
 
-returns-2 : tie.Need-returns-2
-returns-2 c =
+same-length-3 : tie.Need-same-length-3
+same-length-3 c = search needs
+
+returns-3 : tie.Need-returns-3
+returns-3 c =
     let d = c .before .before in
-    let k = d .before .before .before .before .before in
-    let m = k .before .before in (
-      return-done _ _ _ (fine (m .before)) (m .mask .ensures) (k .book .ensures .0) (k .book .ensures .1)
-          (d .dropped .ensures .0) (d .dropped .ensures .1),
+    let e = d .before .before .before in
+    let k = e .before .before .before in
+    let m = k .before .before in
+    let a = m .before .before .before .before .before .before .before .args in (
+      return-done (now (a .plant)) (now (a .book)) (a .mask) (now (a .out)) (now (a .gained)) _ _ (passes (m .before))
+          (m .mask .ensures) (k .book .ensures .0) (k .book .ensures .1) (e .if2 .left) (d .dropped .ensures .0)
+          (d .dropped .ensures .1),
       of-return,
     )
 
@@ -97,15 +134,19 @@ pub return-moves-spec : {M : Type 1} → statement M
 return-moves-spec =
     tie.close
     (tie.spec
+    withdraw-but-arrows-requires
     withdraw-requires
     refused-requires
     returns
     mask-requires
     book-requires
+    refused-requires-2
+    same-length
+    returns-2
     cast-dropped
     slice-reshare-prefix-dropped
     slice-aggregate-dropped
     dropped-requires
-    same-length
     same-length-2
-    returns-2)
+    same-length-3
+    returns-3)

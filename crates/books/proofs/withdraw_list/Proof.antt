@@ -1,17 +1,21 @@
--- `books::withdraw_list` meets its contract: a refused call changes nothing, and an accepted one is carried out as one
--- withdrawal of all moves that its masks name. Assumes nothing.
+-- `books::withdraw_list` meets its contract: a list that passes all its checks but that of the arrows is carried out as
+-- one withdrawal of all moves that its masks name, and any other is refused and changes nothing. Assumes nothing.
 use mathlib.Core.Path.{_≡_, sym, ap, _∙_}
+use mathlib.Core.Bool.{true}
 use Prim.Native.Nat.{ℕ}
 use denote.Ref.{now}
 use lib.ListN.{length}
-use Rattle.statements.specs.Calls.{withdrawFault, withdrawListFault}
-use Rattle.decoding.proofs.Faults.{list-at-once}
-use Rattle.books.proofs.Made.{writes-refused}
-use Rattle.promises.proofs.InTurn.{as-list}
+use borrow.Author.Tests.{not-true, not-false}
+use Rattle.refusals.specs.ButArrows.{withdrawButArrows, listButArrows}
+use Rattle.refusals.proofs.ButArrows.{list-left}
+use Rattle.books.proofs.Answered.{list-refused, list-says}
 use Rattle.promises.proofs.Demands.{of-withdraw-list}
 use borrow.Author.Needs.{needs}
 use Rattle.books.proofs.withdraw_list.Statement.{statement}
 use Rattle.books.proofs.withdraw_list.Tie as tie
+
+withdraw-list-but-arrows-requires : tie.Need-withdraw-list-but-arrows-requires
+withdraw-list-but-arrows-requires c κs = search needs
 
 withdraw-list-requires : tie.Need-withdraw-list-requires
 withdraw-list-requires c κs = search needs
@@ -21,40 +25,38 @@ refused-requires c κs = search needs
 
 returns : tie.Need-returns
 returns c =
-    let e = c .before in
-    let a = e .before .before .before .before .before .before .before .args in
-    let fault =
-    withdrawListFault (now (a .plant)) (now (a .book)) (now (a .masks)) (length (now (a .out)))
-    (length (now (a .drops))) in (
-      record {
-        writes =
-            writes-refused _ fault _ _ (now (a .out)) (now (a .drops)) (c .refused .ensures)
-            (e .before .withdraw-list .ensures) (e .if1 .taken);
-      },
+    let n = c .before in
+    let e = n .before in
+    let t = e .before in
+    let a = t .before .before .before .before .before .before .args in (
+      list-refused (now (a .plant)) (now (a .book)) (now (a .masks)) (now (a .out)) (now (a .drops)) _
+          (c .refused .ensures) (n .withdraw-list .ensures)
+          (sym (t .withdraw-list-but-arrows .ensures) ∙ not-true (t .withdraw-list-but-arrows .result) (e .if1 .taken)),
       of-withdraw-list,
     )
 
 union-requires : tie.Need-union-requires
 union-requires c κs = search needs
 
--- past the test the list is accepted
-fine : (c : tie.Else1)
+-- past the test the list passes all checks but that of the arrows
+passes : (c : tie.Else1)
     → let a = c .before .before .before .before .before .before .before .args in
-    withdrawListFault (now (a .plant)) (now (a .book)) (now (a .masks)) (length (now (a .out)))
-    (length (now (a .drops)))
-    ≡ 0
-fine c = sym (c .before .withdraw-list .ensures) ∙ c .if1 .left
+    listButArrows (now (a .plant)) (now (a .book)) (now (a .masks)) (length (now (a .out))) (length (now (a .drops)))
+    ≡ true
+passes c =
+    let t = c .before in
+    sym (t .withdraw-list-but-arrows .ensures) ∙ not-false (t .withdraw-list-but-arrows .result) (c .if1 .left)
 
-accepted-requires : tie.Need-accepted-requires
-accepted-requires c κs =
+carry-out-requires : tie.Need-carry-out-requires
+carry-out-requires c κs =
     let u = c .before .before in
     let e = u .before in
     let a = e .before .before .before .before .before .before .before .args in
     ap
     (λ (gone : ℕ).
-    withdrawFault (now (a .plant)) (now (a .book)) gone (length (now (a .out))) (length (now (a .drops))))
+    withdrawButArrows (now (a .plant)) (now (a .book)) gone (length (now (a .out))) (length (now (a .drops))))
     (u .union .ensures)
-    ∙ list-at-once (now (a .plant)) (now (a .book)) (now (a .masks)) _ _ (fine e)
+    ∙ list-left (now (a .plant)) (now (a .book)) (now (a .masks)) _ _ (passes e) .1
 
 same-length : tie.Need-same-length
 same-length c = search needs
@@ -66,17 +68,18 @@ returns-2 : tie.Need-returns-2
 returns-2 c =
     let d = c .before .before .before .before in
     let u = d .before .before .before in
-    (as-list (rw (u .union .ensures) at (d .accepted .ensures)) (fine (u .before)), of-withdraw-list)
+    (list-says (passes (u .before)) (rw (u .union .ensures) at (d .carry-out .ensures)), of-withdraw-list)
 
 pub withdraw-list-spec : {M : Type 1} → statement M
 withdraw-list-spec =
     tie.close
     (tie.spec
+    withdraw-list-but-arrows-requires
     withdraw-list-requires
     refused-requires
     returns
     union-requires
-    accepted-requires
+    carry-out-requires
     same-length
     same-length-2
     returns-2)

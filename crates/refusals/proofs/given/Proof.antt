@@ -1,9 +1,8 @@
 -- `refusals::given` meets its contract: 6 for the mask, and then 7 for the buffers. Assumes nothing.
 use mathlib.Core.Path.{_≡_, sym, ap, ap₂, _∙_}
 use mathlib.Core.Bool.{Bool, _&&_, not}
-use Prim.Native.Nat.{ℕ, _*_}
+use Prim.Native.Nat.{ℕ}
 use denote.Ref.{now}
-use lib.Dec.{leb}
 use borrow.Author.Tests.{not-true, not-false}
 use Rattle.statements.specs.Plants.{firstOf, when, plantOf}
 use Rattle.statements.specs.Books.{maskOk}
@@ -43,30 +42,23 @@ returns c =
 book-room-requires : tie.Need-book-room-requires
 book-room-requires c κs = search needs
 
-number-requires-2 : tie.Need-number-requires-2
-number-requires-2 c κs = search needs
-
-cast-if2 : tie.Need-cast-if2
-cast-if2 c = search needs
-
-mul-if2 : tie.Need-mul-if2
-mul-if2 c = search needs
+drop-room-requires : tie.Need-drop-room-requires
+drop-room-requires c κs = search needs
 
 -- what the buffers' lengths decide
-roomed : (c : tie.After-number2)
+roomed : (c : tie.After-drop-room)
     → let a = c .before .before .before .before .before .before .args in
     let p = plantOf (now (a .plant)) in
     firstOf (maskFault p (a .gone)) (roomFault p (a .room) (a .drops))
-    ≡ when (not (c .before .book-room .result && leb (2 * c .number2 .result) (a .drops))) 7
-unfolding roomFault dropRoom plantOf
+    ≡ when (not (c .before .book-room .result && c .drop-room .result)) 7
+unfolding roomFault
 roomed c =
     let e = c .before .before in
     let a = e .before .before .before .before .args in
     let p = plantOf (now (a .plant)) in
     told-room p (a .gone) (bookRoom p (a .room) && dropRoom p (a .drops))
     (masked (e .before) ∙ not-false _ (e .if1 .left))
-    ∙ ap₂ (λ (t : Bool) (n : ℕ). when (not (t && leb (2 * n) (a .drops))) 7) (sym (c .before .book-room .ensures))
-    (sym (c .number2 .ensures))
+    ∙ ap₂ (λ (t u : Bool). when (not (t && u)) 7) (sym (c .before .book-room .ensures)) (sym (c .drop-room .ensures))
 
 returns-2 : tie.Need-returns-2
 returns-2 c = sym (roomed (c .before) ∙ ap (λ (t : Bool). when t 7) (c .if2 .taken))
@@ -83,8 +75,6 @@ given-spec =
     mask-ok-requires
     returns
     book-room-requires
-    number-requires-2
-    cast-if2
-    mul-if2
+    drop-room-requires
     returns-2
     returns-3)

@@ -1,5 +1,5 @@
--- `reply::in_turn` meets its contract: a bad mask is refused, and otherwise the book is made that the masks come to in
--- turn. Assumes nothing.
+-- `reply::in_turn` meets its contract: with a bad mask a making with all of them is refused, and otherwise the book is
+-- made that the masks come to in turn. Assumes nothing.
 use mathlib.Core.Path.{_≡_, sym, ap₂, _∙_}
 use native.Mathlib.Omega.{arith}
 use denote.Ref.{now}
@@ -12,14 +12,14 @@ use borrow.Author.Needs.{needs}
 use Rattle.reply.proofs.in_turn.Statement.{statement}
 use Rattle.reply.proofs.in_turn.Tie as tie
 
+union-requires : tie.Need-union-requires
+union-requires c κs = search needs
+
 number-requires : tie.Need-number-requires
 number-requires c κs = search needs
 
 cast-mask-ok : tie.Need-cast-mask-ok
 cast-mask-ok c = search needs
-
-union-requires : tie.Need-union-requires
-union-requires c κs = search needs
 
 mask-ok-requires : tie.Need-mask-ok-requires
 mask-ok-requires c κs = search needs
@@ -30,12 +30,22 @@ masked : (c : tie.After-mask-ok)
     maskOk (plantOf (now (a .plant)) .moves) (unionOf (masksOf (now (a .masks)))) ≡ c .mask-ok .result
 unfolding plantOf
 masked c =
-    ap₂ maskOk (sym (c .before .before .number .ensures)) (sym (c .before .union .ensures)) ∙ sym (c .mask-ok .ensures)
+    ap₂ maskOk (sym (c .before .number .ensures)) (sym (c .before .before .union .ensures)) ∙ sym (c .mask-ok .ensures)
+
+make-book-requires : tie.Need-make-book-requires
+make-book-requires c κs = search needs
+
+same-length : tie.Need-same-length
+same-length c = search needs
 
 returns : tie.Need-returns
 returns c =
-    let s = c .before .before .before .before .before .before .before in
-    turned-refused (s .pre .1) _ (s .pre .0) _ (masked (c .before) ∙ not-true _ (c .if1 .taken))
+    let k = c .before .before in
+    let e = k .before .before in
+    let u = e .before .before .before in
+    let s = u .before .before .before .before in
+    turned-refused (s .pre .1) _ (s .pre .0) (u .union .ensures) (masked (e .before) ∙ not-true _ (e .if1 .taken))
+    (k .make-book .ensures .0)
 
 mask-at-requires : tie.Need-mask-at-requires
 mask-at-requires c κs = search needs
@@ -59,11 +69,11 @@ union-requires-2 c κs = search needs
 sub-make-book : tie.Need-sub-make-book
 sub-make-book c = and-le-l _ _
 
-make-book-requires : tie.Need-make-book-requires
-make-book-requires c κs = search needs
+make-book-requires-2 : tie.Need-make-book-requires-2
+make-book-requires-2 c κs = search needs
 
-same-length : tie.Need-same-length
-same-length c = search needs
+same-length-2 : tie.Need-same-length-2
+same-length-2 c = search needs
 
 returns-2 : tie.Need-returns-2
 returns-2 c =
@@ -73,16 +83,18 @@ returns-2 c =
     let e = m .before in
     let s = e .before .before .before .before .before .before .before in
     turned-made (s .pre .1) _ (s .pre .0) (masked (e .before) ∙ not-false _ (e .if1 .left)) (m .mask-at .ensures)
-    (u .union2 .ensures) (k .make-book .ensures .0)
+    (u .union2 .ensures) (k .make-book2 .ensures .0)
 
 pub in-turn-spec : {M : Type 1} → statement M
 in-turn-spec =
     tie.close
     (tie.spec
+    union-requires
     number-requires
     cast-mask-ok
-    union-requires
     mask-ok-requires
+    make-book-requires
+    same-length
     returns
     mask-at-requires
     sub-union
@@ -90,6 +102,6 @@ in-turn-spec =
     part-union-end
     union-requires-2
     sub-make-book
-    make-book-requires
-    same-length
+    make-book-requires-2
+    same-length-2
     returns-2)

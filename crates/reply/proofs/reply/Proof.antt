@@ -1,14 +1,20 @@
--- `reply::reply` meets its contract: the plant is refused, its masks are bad, or they are taken in turn.
+-- `reply::reply` meets its contract: the plant is refused or its masks are bad, or they are taken in turn.
 -- Assumes nothing.
-use mathlib.Core.Path.{_≡_, sym, _∙_}
+use mathlib.Core.Path.{_≡_, sym, ap₂, _∙_}
+use mathlib.Core.Bool.{Bool, true, _&&_}
 use mathlib.Core.List.{List}
-use Prim.Native.Nat.{ℕ}
+use Prim.Native.Nat.{ℕ, _-_}
+use denote.Ref.{now}
+use lib.ListN.{take, drop, length}
 use lib.Seq.{length-take-le}
 use borrow.Author.Tests.{not-true, not-false}
+use Rattle.statements.specs.Plants.{plantOf, headOk}
+use Rattle.sets.proofs.Tests.{and-left, and-right}
+use Rattle.format.specs.Checks.{labelsFine}
 use Rattle.listing.specs.Buffers.{placed, placedLong}
-use Rattle.reply.specs.Reply.{replyTo}
+use Rattle.reply.specs.Reply.{masksOk, replyTo}
 use Rattle.reply.specs.Laws.{FirstDecide, FewBytes, ListsAfresh}
-use Rattle.reply.proofs.Parts.{reply-refused, reply-bad, reply-good}
+use Rattle.reply.proofs.Parts.{reply-unfit, reply-good}
 use Rattle.reply.proofs.Room.{reply-most}
 use Rattle.reply.proofs.Long.{reply-first}
 use Rattle.reply.proofs.Afresh.{reply-afresh}
@@ -29,22 +35,6 @@ plant-end-requires c κs = search needs
 slice-aggregate-plant : tie.Need-slice-aggregate-plant
 slice-aggregate-plant c = sym (length-take-le _ _ (c .before .plant-end .ensures .within))
 
-plant-fault-requires : tie.Need-plant-fault-requires
-plant-fault-requires c κs = search needs
-
-refused-text-requires : tie.Need-refused-text-requires
-refused-text-requires c κs = search needs
-
-same-length : tie.Need-same-length
-same-length c = search needs
-
-returns : tie.Need-returns
-returns c =
-    let t = c .before .before .before .before in
-    let f = t .before in
-    said _ _ _ (reply-refused (f .before .before .plant-end .ensures) (f .plant-fault .ensures) (t .if1 .taken))
-    (c .before .before .refused-text .ensures)
-
 sub-masks : tie.Need-sub-masks
 sub-masks c = search needs
 
@@ -54,44 +44,62 @@ part-masks-start c = search needs
 part-masks-end : tie.Need-part-masks-end
 part-masks-end c = search needs
 
+before-arrows-ok-requires : tie.Need-before-arrows-ok-requires
+before-arrows-ok-requires c κs = search needs
+
 masks-ok-requires : tie.Need-masks-ok-requires
 masks-ok-requires c κs = search needs
 
-bad-masks-text-requires : tie.Need-bad-masks-text-requires
-bad-masks-text-requires c κs = search needs
+-- the tests of the plant's header and labels, and of the masks
+tested : (c : tie.After-masks-ok)
+    → let e = c .before .before .before .before in
+    let input = now (e .before .before .before .args .input) in
+    let s = take (e .plant-end .result) input in
+    let m = take (length input - e .plant-end .result) (drop (e .plant-end .result) input) in
+    ((headOk s && labelsFine (plantOf s)) && masksOk m) ≡ (c .before .before-arrows-ok .result && c .masks-ok .result)
+tested c = ap₂ (λ (t u : Bool). t && u) (sym (c .before .before-arrows-ok .ensures)) (sym (c .masks-ok .ensures))
+
+reply-bad-requires : tie.Need-reply-bad-requires
+reply-bad-requires c κs = search needs
+
+same-length : tie.Need-same-length
+same-length c = search needs
+
+returns : tie.Need-returns
+returns c =
+    let t = c .before .before .before .before in
+    let m = t .before in
+    said _ _ _
+    (reply-unfit (m .before .before .before .before .plant-end .ensures) (tested m ∙ not-true _ (t .if1 .taken)))
+    (c .before .before .reply-bad .ensures)
+
+-- past them the header and the masks are good
+fit : (c : tie.Else1)
+    → let e = c .before .before .before .before .before in
+    let input = now (e .before .before .before .args .input) in
+    (headOk (take (e .plant-end .result) input) ≡ true)
+    × (masksOk (take (length input - e .plant-end .result) (drop (e .plant-end .result) input)) ≡ true)
+fit c =
+    let m = c .before in
+    let e = m .before .before .before .before in
+    let s = take (e .plant-end .result) (now (e .before .before .before .args .input)) in
+    let plant = m .before .before-arrows-ok .result in
+    let both = not-false (plant && m .masks-ok .result) (c .if1 .left) in (
+      and-left (headOk s) (labelsFine (plantOf s))
+          (sym (m .before .before-arrows-ok .ensures) ∙ and-left plant (m .masks-ok .result) both),
+      sym (m .masks-ok .ensures) ∙ and-right plant (m .masks-ok .result) both,
+    )
+
+reply-masks-requires : tie.Need-reply-masks-requires
+reply-masks-requires c κs = fit (c .before)
 
 same-length-2 : tie.Need-same-length-2
 same-length-2 c = search needs
 
 returns-2 : tie.Need-returns-2
 returns-2 c =
-    let t = c .before .before .before .before in
-    let e = t .before .before .before in
-    let f = e .before in
-    said _ _ _
-    (reply-bad (f .before .before .plant-end .ensures) (sym (f .plant-fault .ensures) ∙ e .if1 .left)
-    (sym (t .before .masks-ok .ensures) ∙ not-true _ (t .if2 .taken)))
-    (c .before .before .bad-masks-text .ensures)
-
-reply-masks-requires : tie.Need-reply-masks-requires
-reply-masks-requires c κs =
-    let t = c .before in
-    let e = t .before .before .before in (
-      sym (e .before .plant-fault .ensures) ∙ e .if1 .left,
-      sym (t .before .masks-ok .ensures) ∙ not-false _ (t .if2 .left),
-    )
-
-same-length-3 : tie.Need-same-length-3
-same-length-3 c = search needs
-
-returns-3 : tie.Need-returns-3
-returns-3 c =
-    let t = c .before .before .before .before in
-    let e = t .before .before .before in
-    let f = e .before in
-    said _ _ _
-    (reply-good (f .before .before .plant-end .ensures) (sym (f .plant-fault .ensures) ∙ e .if1 .left)
-    (sym (t .before .masks-ok .ensures) ∙ not-false _ (t .if2 .left)))
+    let e = c .before .before .before .before in
+    said _ _ _ (reply-good (e .before .before .before .before .before .plant-end .ensures) (fit e .1))
     (c .before .before .reply-masks .ensures .long, c .before .before .reply-masks .ensures .bytes)
 
 pub reply-spec : {M : Type 1} → statement M
@@ -100,17 +108,14 @@ reply-spec =
     (tie.spec
     plant-end-requires
     slice-aggregate-plant
-    plant-fault-requires
-    refused-text-requires
-    same-length
-    returns
     sub-masks
     part-masks-start
     part-masks-end
+    before-arrows-ok-requires
     masks-ok-requires
-    bad-masks-text-requires
-    same-length-2
-    returns-2
+    reply-bad-requires
+    same-length
+    returns
     reply-masks-requires
-    same-length-3
-    returns-3)
+    same-length-2
+    returns-2)

@@ -4,7 +4,7 @@ use Prim.Native.Nat.{_≤_}
 use native.Mathlib.Omega.{arith}
 use lib.ListN.{length}
 use lib.Seq.{length-take-le}
-use Rattle.decoding.proofs.Faults.{long-few}
+use Rattle.reply.proofs.Parts.{head-long}
 use borrow.Author.Needs.{needs}
 use Rattle.reply.proofs.reply_masks.Statement.{statement}
 use Rattle.reply.proofs.reply_masks.Tie as tie
@@ -19,7 +19,7 @@ book-long-requires c κs = search needs
 within : (c : tie.After-book-long) → c .book-long .result ≤ length (c .before .book-buffer .result)
 within c =
     let s = c .before .before .before .before .before in
-    omega (arith, c .book-long .ensures, long-few _ (s .pre .0), c .before .book-buffer .ensures)
+    omega (arith, c .book-long .ensures, head-long _ (s .pre .0), c .before .book-buffer .ensures)
 
 array-borrow-prefix-book : tie.Need-array-borrow-prefix-book
 array-borrow-prefix-book c = within c
@@ -32,7 +32,7 @@ reply-in-requires c κs =
     let k = c .before .before in
     let s = k .before .before .before .before .before in (
       s .pre .1,
-      record { plant = s .pre .0; long = length-take-le _ _ (within k) ∙ k .book-long .ensures },
+      record { long = length-take-le _ _ (within k) ∙ k .book-long .ensures },
     )
 
 same-length : tie.Need-same-length

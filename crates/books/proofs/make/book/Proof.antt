@@ -1,5 +1,5 @@
 -- `books::make::book` meets its contract: it writes the book within the allowed states, struck out of the list of all
--- states, which is the book of a making. Assumes nothing.
+-- states, which is the book of a making, or nothing where the arrows are bad. Assumes nothing.
 use denote.Ref.{now}
 use mathlib.Core.Path.{_≡_, sym, _∙_}
 use Prim.Native.Nat.{_≤_}
@@ -9,7 +9,7 @@ use lib.Seq.{length-take-le}
 use Rattle.statements.specs.Sets.{numbers, filter}
 use Rattle.statements.specs.Plants.{plantOf, allowed}
 use Rattle.sets.proofs.Members.{length-numbers}
-use Rattle.decoding.proofs.Faults.{states-few}
+use Rattle.refusals.proofs.ButArrows.{plant-few}
 use Rattle.books.proofs.Made.{struck, made-written}
 use borrow.Author.Needs.{needs}
 use Rattle.books.proofs.make.book.Statement.{statement}
@@ -17,7 +17,7 @@ use Rattle.books.proofs.make.book.Tie as tie
 
 -- the plant's states are few
 few : (c : tie.Start) → plantOf (now (c .args .plant)) .states ≤ 1024
-few c = states-few (now (c .args .plant)) (c .pre .0)
+few c = plant-few (now (c .args .plant)) (c .pre .0)
 
 slice-aggregate-states : tie.Need-slice-aggregate-states
 slice-aggregate-states c = search needs

@@ -1,6 +1,6 @@
 -- `solve::search::search` meets its contract: at each group the moves left decide which move is found, and at each end
--- of a move the ends left decide whether it goes below the limit. Assumes nothing.
-use mathlib.Core.Path.{_≡_, sym, _∙_}
+-- of a group the ends left decide whether its move goes below the limit. Assumes nothing.
+use mathlib.Core.Path.{_≡_, refl, sym, _∙_}
 use Prim.Native.Nat.{ℕ, _+_, _-_, _≤_, _<_}
 use native.Mathlib.Omega.{arith}
 use lib.ListN.{getD, length}
@@ -16,26 +16,26 @@ use Rattle.solve.proofs.search.search.Statement.{statement}
 use Rattle.solve.proofs.search.search.Tie as tie
 
 abbrev Inv-loop : tie.InvT-loop
-Inv-loop plant mask table _ waits limit state _ _ last action _ stop at =
-    Ends (plantOf plant) mask (below waits limit (plantOf plant .states)) state table last action stop at
+Inv-loop plant mask table _ waits limit state _ g₀ last _ stop g at =
+    (g ≡ g₀) × Ends (plantOf plant) mask (below waits limit (plantOf plant .states)) state last g stop at
 
 abbrev μ-loop : tie.MeasureT-loop
-μ-loop _ _ _ _ _ _ _ _ _ _ _ _ stop at = stop - at
+μ-loop _ _ _ _ _ _ _ _ _ _ _ stop _ at = stop - at
 
 abbrev Inv-moves : tie.InvT-moves
-Inv-moves plant mask table _ waits limit state _ _ last at =
-    Left (plantOf plant) mask (below waits limit (plantOf plant .states)) state table last at
+Inv-moves plant mask table _ waits limit state _ _ last g =
+    Left (plantOf plant) mask (below waits limit (plantOf plant .states)) state last g
 
 abbrev μ-moves : tie.MeasureT-moves
-μ-moves _ _ _ _ _ _ _ _ _ last at = last - at
+μ-moves _ _ _ _ _ _ _ _ _ last g = last - g
 
 -- the function's entry, seen from a group
 abbrev entry : tie.At-moves Inv-loop μ-loop Inv-moves μ-moves → tie.Start Inv-loop μ-loop Inv-moves μ-moves
 entry c = c .before .before .before
 
--- the group, seen from an end
-abbrev group : tie.At-loop Inv-loop μ-loop Inv-moves μ-moves → tie.Else1 Inv-loop μ-loop Inv-moves μ-moves
-group c = c .before .before .before
+-- the entry, seen from an end
+abbrev start : tie.At-loop Inv-loop μ-loop Inv-moves μ-moves → tie.Start Inv-loop μ-loop Inv-moves μ-moves
+start c = entry (c .before .before .before .before)
 
 sought : (s : tie.Start Inv-loop μ-loop Inv-moves μ-moves)
     → let a = s .args in
@@ -49,41 +49,34 @@ sought s =
       here = pre .1 .1;
     }
 
--- the groups are in the table
-long : (s : tie.Start Inv-loop μ-loop Inv-moves μ-moves)
-    → getD (s .args .table .now) (s .args .state + 1) 0 ≤ length (s .args .table .now)
-long s = laws.sought-last (sought s)
+-- where a group's ends begin and stop stands in the table
+bounds-in : (c : tie.Else1 Inv-loop μ-loop Inv-moves μ-moves)
+    → 1026 + c .before .moves .g < length (entry (c .before) .args .table .now)
+bounds-in c = laws.left-in (sought (entry (c .before))) (c .before .moves .inv) (c .if1 .left)
 
--- a group has two numbers
-counted : (c : tie.Else1 Inv-loop μ-loop Inv-moves μ-moves)
-    → c .before .moves .at + 1 < getD (entry (c .before) .args .table .now) (entry (c .before) .args .state + 1) 0
-counted c =
-    let s = entry (c .before) in
-    laws.left-count (sought s) (c .before .moves .inv) (c .if1 .left) (long s)
+-- and so does the move
+move-in : (c : tie.At-loop Inv-loop μ-loop Inv-moves μ-moves)
+    → 9218 + c .loop .g < length (start c .args .table .now)
+move-in c = laws.ends-move-in (sought (start c)) (c .loop .inv .1)
 
--- an end is in the table, and a state
-inside : (c : tie.Else2 Inv-loop μ-loop Inv-moves μ-moves)
-    → let s = entry (group (c .before) .before) in
-    c .before .loop .at < getD (s .args .table .now) (s .args .state + 1) 0
-inside c =
-    let s = entry (group (c .before) .before) in
-    laws.ends-inside (sought s) (c .before .loop .inv) (c .if2 .left) (long s)
+-- and an end, which is a state
+end-in : (c : tie.Else2 Inv-loop μ-loop Inv-moves μ-moves)
+    → 17410 + c .before .loop .at < length (start (c .before) .args .table .now)
+end-in c = laws.ends-in (sought (start (c .before))) (c .before .loop .inv .1) (c .if2 .left)
 
 end-state : (c : tie.Else2 Inv-loop μ-loop Inv-moves μ-moves)
-    → let a = entry (group (c .before) .before) .args in
-    getD (a .table .now) (c .before .loop .at) 0 < plantOf (a .plant .now) .states
-end-state c =
-    let s = entry (group (c .before) .before) in
-    laws.ends-state (sought s) (c .before .loop .inv) (c .if2 .left) (long s)
+    → let a = start (c .before) .args in
+    getD (a .table .now) (17410 + c .before .loop .at) 0 < plantOf (a .plant .now) .states
+end-state c = laws.ends-state (sought (start (c .before))) (c .before .loop .inv .1) (c .if2 .left)
 
-mul-at : tie.Need-mul-at Inv-loop μ-loop Inv-moves μ-moves
-mul-at c = omega arith
+mul-g : tie.Need-mul-g Inv-loop μ-loop Inv-moves μ-moves
+mul-g c = omega arith
 
-shared-slice-read-at : tie.Need-shared-slice-read-at Inv-loop μ-loop Inv-moves μ-moves
-shared-slice-read-at c = omega (arith, laws.sought-next (sought (c .before)))
+shared-slice-read-g : tie.Need-shared-slice-read-g Inv-loop μ-loop Inv-moves μ-moves
+shared-slice-read-g c = omega (arith, laws.sought-next (sought (c .before)))
 
-cast-at : tie.Need-cast-at Inv-loop μ-loop Inv-moves μ-moves
-cast-at c = omega (arith, c .shared-slice-known .given (c .before .args .state))
+cast-g : tie.Need-cast-g Inv-loop μ-loop Inv-moves μ-moves
+cast-g c = omega (arith, c .shared-slice-known .given (c .before .args .state))
 
 add-last : tie.Need-add-last Inv-loop μ-loop Inv-moves μ-moves
 add-last c = omega arith
@@ -100,71 +93,83 @@ cast-last c = omega (arith, c .shared-slice-known2 .given (c .before .before .ar
 moves-holds : tie.Need-moves-holds Inv-loop μ-loop Inv-moves μ-moves
 moves-holds c = laws.left-start (sought (c .before .before))
 
-mul-action : tie.Need-mul-action Inv-loop μ-loop Inv-moves μ-moves
-mul-action c = omega (arith, long (entry (c .before)), c .if1 .left)
-
-shared-slice-read-action : tie.Need-shared-slice-read-action Inv-loop μ-loop Inv-moves μ-moves
-shared-slice-read-action c = omega (arith, long (entry (c .before .before)), c .before .if1 .left)
-
-add-count : tie.Need-add-count Inv-loop μ-loop Inv-moves μ-moves
-add-count c = omega (arith, long (entry (c .before .before)), counted (c .before))
-
-mul-count : tie.Need-mul-count Inv-loop μ-loop Inv-moves μ-moves
-mul-count c = omega (arith, long (entry (c .before .before)), counted (c .before))
-
-shared-slice-read-count : tie.Need-shared-slice-read-count Inv-loop μ-loop Inv-moves μ-moves
-shared-slice-read-count c = omega (arith, long (entry (c .before .before .before)), counted (c .before .before))
-
-cast-count : tie.Need-cast-count Inv-loop μ-loop Inv-moves μ-moves
-cast-count c = omega (arith, c .shared-slice-known4 .given (c .before .before .before .moves .at + 1))
-
 add-at : tie.Need-add-at Inv-loop μ-loop Inv-moves μ-moves
-add-at c = omega (arith, long (entry (c .before .before .before)), counted (c .before .before))
+add-at c = omega (arith, bounds-in c)
+
+mul-at : tie.Need-mul-at Inv-loop μ-loop Inv-moves μ-moves
+mul-at c = omega (arith, bounds-in c)
+
+shared-slice-read-at : tie.Need-shared-slice-read-at Inv-loop μ-loop Inv-moves μ-moves
+shared-slice-read-at c = omega (arith, bounds-in (c .before))
+
+cast-at : tie.Need-cast-at Inv-loop μ-loop Inv-moves μ-moves
+cast-at c = omega (arith, c .shared-slice-known3 .given (1025 + c .before .before .moves .g))
 
 add-stop : tie.Need-add-stop Inv-loop μ-loop Inv-moves μ-moves
-add-stop c =
-    let g = c .before .before in
-    omega (arith, long (entry (g .before)), counted g, c .shared-slice-known4 .given (g .before .moves .at + 1))
+add-stop c = omega (arith, bounds-in (c .before))
+
+mul-stop : tie.Need-mul-stop Inv-loop μ-loop Inv-moves μ-moves
+mul-stop c = omega (arith, bounds-in (c .before))
+
+shared-slice-read-stop : tie.Need-shared-slice-read-stop Inv-loop μ-loop Inv-moves μ-moves
+shared-slice-read-stop c = bounds-in (c .before .before)
+
+cast-stop : tie.Need-cast-stop Inv-loop μ-loop Inv-moves μ-moves
+cast-stop c = omega (arith, c .shared-slice-known4 .given (1026 + c .before .before .before .moves .g))
 
 loop-holds : tie.Need-loop-holds Inv-loop μ-loop Inv-moves μ-moves
 loop-holds c =
     let g = c .before .before in
-    let s = entry (g .before) in
-    laws.left-ends (sought s) (g .before .moves .inv) (g .if1 .left) (long s)
+    (refl, laws.left-ends (sought (entry (g .before))) (g .before .moves .inv) (g .if1 .left))
+
+add-found : tie.Need-add-found Inv-loop μ-loop Inv-moves μ-moves
+add-found c = omega (arith, move-in (c .before))
+
+mul-found : tie.Need-mul-found Inv-loop μ-loop Inv-moves μ-moves
+mul-found c = omega (arith, move-in (c .before))
+
+shared-slice-read-found : tie.Need-shared-slice-read-found Inv-loop μ-loop Inv-moves μ-moves
+shared-slice-read-found c = move-in (c .before .before)
+
+add-end : tie.Need-add-end Inv-loop μ-loop Inv-moves μ-moves
+add-end c = omega (arith, end-in c)
 
 mul-end : tie.Need-mul-end Inv-loop μ-loop Inv-moves μ-moves
-mul-end c = omega (arith, long (entry (group (c .before) .before)), inside c)
+mul-end c = omega (arith, end-in c)
 
 shared-slice-read-end : tie.Need-shared-slice-read-end Inv-loop μ-loop Inv-moves μ-moves
-shared-slice-read-end c = omega (arith, long (entry (group (c .before .before) .before)), inside (c .before))
+shared-slice-read-end c = end-in (c .before)
 
 cast-end : tie.Need-cast-end Inv-loop μ-loop Inv-moves μ-moves
-cast-end c = omega (arith, c .shared-slice-known5 .given (c .before .before .loop .at))
+cast-end c = omega (arith, c .shared-slice-known6 .given (17410 + c .before .before .loop .at))
 
 mul-if3 : tie.Need-mul-if3 Inv-loop μ-loop Inv-moves μ-moves
-mul-if3 c = omega (arith, c .shared-slice-known5 .given (c .before .before .loop .at))
+mul-if3 c = omega (arith, c .shared-slice-known6 .given (17410 + c .before .before .loop .at))
 
 shared-slice-read-if3 : tie.Need-shared-slice-read-if3 Inv-loop μ-loop Inv-moves μ-moves
 shared-slice-read-if3 c =
     let e = c .before .before in
-    omega (arith, end-state e, sought (entry (group (e .before) .before)) .long)
+    omega (arith, end-state e, sought (start (e .before)) .long)
+
+add-g : tie.Need-add-g Inv-loop μ-loop Inv-moves μ-moves
+add-g c = omega (arith, move-in (c .before .before .before .before))
 
 moves-less : tie.Need-moves-less Inv-loop μ-loop Inv-moves μ-moves
-moves-less c = omega (arith, group (c .before .before .before .before) .if1 .left)
+moves-less c =
+    let l = c .before .before .before .before in
+    omega (arith, l .loop .inv .0, laws.ends-before (sought (start l)) (l .loop .inv .1))
 
 moves-again : tie.Need-moves-again Inv-loop μ-loop Inv-moves μ-moves
 moves-again c =
     let e = c .before .before .before in
-    let s = entry (group (e .before) .before) in
-    let y = getD (s .args .table .now) (e .before .loop .at) 0 in
+    let s = start (e .before) in
+    let y = getD (s .args .table .now) (17410 + e .before .loop .at) 0 in
     let high : s .args .limit ≤ getD (s .args .waits .now) y 0 = omega (arith, c .if3 .taken) in
-    laws.ends-fail (sought s) (e .before .loop .inv) (e .if2 .left) (long s)
+    laws.ends-fail (sought s) (e .before .loop .inv .1) (e .if2 .left)
     (laws.below-test (s .args .waits .now) (s .args .limit) _ y (end-state e) ∙ le-ltb _ _ high)
 
 add-at-2 : tie.Need-add-at-2 Inv-loop μ-loop Inv-moves μ-moves
-add-at-2 c =
-    let e = c .before .before .before in
-    omega (arith, long (entry (group (e .before) .before)), inside e)
+add-at-2 c = omega (arith, end-in (c .before .before .before))
 
 loop-less : tie.Need-loop-less Inv-loop μ-loop Inv-moves μ-moves
 loop-less c = omega (arith, c .before .before .before .if2 .left)
@@ -172,11 +177,13 @@ loop-less c = omega (arith, c .before .before .before .if2 .left)
 loop-again : tie.Need-loop-again Inv-loop μ-loop Inv-moves μ-moves
 loop-again c =
     let e = c .before .before .before in
-    let s = entry (group (e .before) .before) in
-    let y = getD (s .args .table .now) (e .before .loop .at) 0 in
-    let low : getD (s .args .waits .now) y 0 < s .args .limit = omega (arith, c .if3 .left) in
-    laws.ends-pass (sought s) (e .before .loop .inv) (e .if2 .left) (long s)
-    (laws.below-test (s .args .waits .now) (s .args .limit) _ y (end-state e) ∙ lt-ltb _ _ low)
+    let s = start (e .before) in
+    let y = getD (s .args .table .now) (17410 + e .before .loop .at) 0 in
+    let low : getD (s .args .waits .now) y 0 < s .args .limit = omega (arith, c .if3 .left) in (
+      e .before .loop .inv .0,
+      laws.ends-pass (sought s) (e .before .loop .inv .1) (e .if2 .left)
+          (laws.below-test (s .args .waits .now) (s .args .limit) _ y (end-state e) ∙ lt-ltb _ _ low),
+    )
 
 -- the first move found is the lowest of all
 promised : (s : tie.Start Inv-loop μ-loop Inv-moves μ-moves) {r : ℕ}
@@ -190,12 +197,13 @@ promised s e = (e, e ∙ sym (moves-lowest _ _ _ _))
 returns : tie.Need-returns Inv-loop μ-loop Inv-moves μ-moves
 returns c =
     let s = entry (c .before) in
-    promised s (s .pre .0 .none-is ∙ sym (laws.left-none (sought s) (c .before .moves .inv) (c .if1 .taken) (long s)))
+    promised s (s .pre .0 .none-is ∙ sym (laws.left-none (sought s) (c .before .moves .inv) (c .if1 .taken)))
 
 returns-2 : tie.Need-returns-2 Inv-loop μ-loop Inv-moves μ-moves
 returns-2 c =
-    let s = entry (group (c .before) .before) in
-    promised s (sym (laws.ends-all (sought s) (c .before .loop .inv) (c .if2 .taken)))
+    let e = c .before in
+    let s = start (e .before) in
+    promised s (sym (laws.ends-all (sought s) (e .before .loop .inv .1) (e .if2 .taken)))
 
 pub search-spec : {M : Type 1} → statement M
 search-spec =
@@ -205,28 +213,33 @@ search-spec =
     μ-loop
     Inv-moves
     μ-moves
-    mul-at
-    shared-slice-read-at
-    cast-at
+    mul-g
+    shared-slice-read-g
+    cast-g
     add-last
     mul-last
     shared-slice-read-last
     cast-last
     moves-holds
-    mul-action
-    shared-slice-read-action
-    add-count
-    mul-count
-    shared-slice-read-count
-    cast-count
     add-at
+    mul-at
+    shared-slice-read-at
+    cast-at
     add-stop
+    mul-stop
+    shared-slice-read-stop
+    cast-stop
     loop-holds
+    add-found
+    mul-found
+    shared-slice-read-found
+    add-end
     mul-end
     shared-slice-read-end
     cast-end
     mul-if3
     shared-slice-read-if3
+    add-g
     moves-less
     moves-again
     add-at-2

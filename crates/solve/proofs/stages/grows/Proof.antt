@@ -13,7 +13,7 @@ use Rattle.sets.proofs.Tests.{not-both}
 use Rattle.sets.proofs.Iterate.{sifted-below}
 use Rattle.decoding.proofs.Faults.{plant-ok}
 use Rattle.solve.specs.Stages.{Calm}
-use Rattle.solve.proofs.ReachTurns.{isIn-at}
+use Rattle.solve.proofs.Lasts.{isIn-at}
 use Rattle.solve.proofs.StageTurns as laws
 use Rattle.solve.proofs.stages.grows.Statement.{statement}
 use Rattle.solve.proofs.stages.grows.Tie as tie

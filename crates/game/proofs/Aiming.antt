@@ -1,0 +1,90 @@
+-- The loop before a reach, turn by turn: the nodes at which it begins line up. Assumes nothing.
+use mathlib.Core.Path.{_≡_, refl, ap, sym, _∙_}
+use mathlib.Core.Bool.{Bool, true, false, _&&_, _||_}
+use mathlib.Core.List.{List, [], _∷_, _++_, append-nil}
+use Prim.Native.Nat.{ℕ, suc, _+_, _≤_, _<_}
+use native.Mathlib.Omega.{arith}
+use native.Mathlib.Numerals.{add-one}
+use lib.Dec.{ltb}
+use lib.ListN.{length, getD, take, set, length-append, length-set}
+use lib.Seq.{take-suc, take-suc-set, take-length, length-take-le}
+use Rattle.statements.specs.Sets.{bit, isIn, filter, consIf}
+use Rattle.sets.proofs.Members.{filter-length, filter-snoc}
+use Rattle.game.specs.Packed.{goalOf, overAt}
+use Rattle.game.specs.Cuts.{aimed}
+use Rattle.game.proofs.Counts.{take-in}
+
+-- a place of a list holds a member
+pub listed : (list : List ℕ) (k : ℕ) → k < length list → isIn (getD list k 0) list ≡ true
+listed list k h = rw (take-length list) at (take-in (length list) k list h (omega arith))
+
+-- of the first k nodes of a list those that pass a test are in line
+pub record Aimed (f : ℕ → Bool) (list old new : List ℕ) (tail k : ℕ) : Type 0 where
+  pub within : k ≤ length list
+  pub size : length new ≡ length old
+  pub number : tail ≡ length (filter f (take k list))
+  pub line : take tail new ≡ filter f (take k list)
+
+-- none are read yet
+pub aim-none : (f : ℕ → Bool) (list old : List ℕ) → Aimed f list old old 0 0
+unfolding filter
+aim-none f list old = record { within = omega arith; size = refl; number = refl; line = refl }
+
+module _ (f : ℕ → Bool) (list old new : List ℕ) (tail k : ℕ) (c : Aimed f list old new tail k) where
+  -- no more are in line than are read
+  pub aim-few : tail ≤ k
+  aim-few = omega (arith, c .number, filter-length f (take k list), length-take-le k list (c .within))
+
+  -- all are read
+  pub aim-end : length list ≤ k → (tail ≡ length (filter f list)) × (take tail new ≡ filter f list)
+  aim-end h =
+      let all : take k list ≡ list =
+      (let e : k ≡ length list = omega (arith, c .within) in rw e (take-length list)) in
+      (rw all at (c .number), rw all at (c .line))
+
+  module _ (more : k < length list) where
+    -- what the next node adds
+    next : filter f (take (k + 1) list) ≡ filter f (take k list) ++ consIf (f (getD list k 0)) (getD list k 0) []
+    next = rw (add-one k, take-suc list k 0 more) (filter-snoc f (take k list) (getD list k 0))
+
+    -- it joins the line, or does not
+    pub aim-yes : f (getD list k 0) ≡ true → tail < length new
+        → Aimed f list old (set new tail (getD list k 0)) (tail + 1) (k + 1)
+    aim-yes t room =
+        let both : filter f (take (k + 1) list) ≡ filter f (take k list) ++ (getD list k 0 ∷ []) = rw t at next in
+        record {
+          within = omega arith;
+          size = length-set new tail (getD list k 0) ∙ c .size;
+          number = omega (
+            arith,
+            ap length both ∙ length-append (filter f (take k list)) (getD list k 0 ∷ []),
+            c .number,
+          );
+          line = rw (add-one tail, take-suc-set new tail (getD list k 0) room, c .line) (sym both);
+        }
+
+    pub aim-no : f (getD list k 0) ≡ false → Aimed f list old new tail (k + 1)
+    aim-no t =
+        let same : filter f (take (k + 1) list) ≡ filter f (take k list) = (rw t at next) ∙ append-nil _ in
+        record {
+          within = omega arith;
+          size = c .size;
+          number = rw same (c .number);
+          line = rw same (c .line);
+        }
+
+-- the test of a node at which a reach to goal i begins
+unfoldable pub aimsAt : List ℕ → List ℕ → ℕ → ℕ → Bool
+aimsAt labels member i x = overAt labels x || (goalOf labels i x && ltb (getD member x 0) 1)
+
+-- it is what `begins` returns, and what `aimed` sifts by
+pub aims-at : (labels member : List ℕ) (i x : ℕ) {b : Bool}
+    → b ≡ (bit 15 (getD labels x 0) || (bit (suc i) (getD labels x 0) && ltb (getD member x 0) 1))
+    → aimsAt labels member i x ≡ b
+unfolding aimsAt overAt goalOf
+aims-at labels member i x e = sym e
+
+pub aimed-is : (labels member : List ℕ) (i : ℕ) (list : List ℕ)
+    → filter (aimsAt labels member i) list ≡ aimed labels member i list
+unfolding aimsAt aimed
+aimed-is labels member i list = refl

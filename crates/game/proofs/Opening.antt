@@ -1,0 +1,79 @@
+-- The loops before the first round, turn by turn: each group has an end, and the nodes with a group are marked; and
+-- what the parts of a packed game are. Assumes nothing.
+use mathlib.Core.Path.{_≡_, refl, ap, sym, _∙_}
+use mathlib.Core.Logic.{⊎-elim}
+use mathlib.Core.Bool.{Bool, true, false}
+use mathlib.Core.List.{List}
+use Prim.Native.Nat.{ℕ, _+_, _-_, _<_, _≤_}
+use native.Mathlib.Omega.{arith}
+use borrow.Author.Count.{below-more}
+use borrow.Author.Tests.{lt-ltb, le-ltb}
+use lib.Dec.{ltb}
+use lib.ListN.{length, getD, set, take, drop, length-set, length-drop}
+use lib.Seq.{getD-set-same, getD-set-other, length-take-le}
+use Rattle.statements.specs.Sets.{every}
+use Rattle.sets.proofs.Tests.{same-number}
+use Rattle.sets.proofs.Numbers.{every-all, every-none}
+use Rattle.sort.specs.Steps.{Holds}
+use Rattle.game.specs.Packed.{part, revIn, startsIn, labelsIn}
+
+-- a size of 0, or none
+module _ (sizes : List ℕ) where
+  pub covered-no : (g : ℕ) → g < length sizes → getD sizes g 0 < 1
+      → false ≡ every (length sizes) 0 (λ k. ltb 0 (getD sizes k 0))
+  covered-no g h l =
+      sym (every-none (length sizes) 0 (λ k. ltb 0 (getD sizes k 0)) g (omega arith) (omega arith)
+      (le-ltb 0 (getD sizes g 0) (omega arith)))
+
+  pub covered-yes : ((g : ℕ) → g < length sizes → 1 ≤ getD sizes g 0)
+      → true ≡ every (length sizes) 0 (λ k. ltb 0 (getD sizes k 0))
+  covered-yes h =
+      sym (every-all (length sizes) 0 (λ k. ltb 0 (getD sizes k 0))
+      (λ k low high. lt-ltb 0 (getD sizes k 0) (omega (arith, h k (omega arith)))))
+
+-- the nodes below x are marked where they have a group, and the others up to n are not marked yet
+pub record Opening (live member : List ℕ) (n x : ℕ) : Type 0 where
+  pub marked : (y : ℕ) → y < x → ltb (getD member y 0) 1 ≡ ltb 0 (getD live y 0)
+  pub later : (y : ℕ) → x ≤ y → y < n → getD member y 0 ≡ 65535
+
+pub open-none : (live member : List ℕ) (n : ℕ) → Holds n (λ x. 65535) member → Opening live member n 0
+open-none live member n h = record { marked = λ y l. absurd (omega arith); later = λ y l k. h y k }
+
+module _ (live member : List ℕ) (n x : ℕ) (o : Opening live member n x) (low : x < n) where
+  pub open-no : getD live x 0 ≡ 0 → Opening live member n (x + 1)
+  open-no e =
+      record {
+        marked =
+            below-more (λ (y : ℕ). ltb (getD member y 0) 1 ≡ ltb 0 (getD live y 0)) x (o .marked)
+            (le-ltb (getD member x 0) 1 (omega (arith, o .later x (omega arith) low))
+            ∙ sym (le-ltb 0 (getD live x 0) (omega arith)));
+        later = λ y l k. o .later y (omega arith) k;
+      }
+
+  pub open-yes : (getD live x 0 ≡ 0 → ⊥) → x < length member → Opening live (set member x 0) n (x + 1)
+  open-yes d room =
+      record {
+        marked =
+            below-more (λ (y : ℕ). ltb (getD (set member x 0) y 0) 1 ≡ ltb 0 (getD live y 0)) x
+            (λ y l.
+            ap (λ (v : ℕ). ltb v 1) (getD-set-other member x y 0 0 (λ q. omega arith)) ∙ o .marked y l)
+            (ap (λ (v : ℕ). ltb v 1) (getD-set-same member x 0 0 room)
+            ∙ sym (lt-ltb 0 (getD live x 0) (omega (arith, d))));
+        later = λ y l k. getD-set-other member x y 0 0 (λ q. omega arith) ∙ o .later y (omega arith) k;
+      }
+
+-- a part's length
+pub part-length : (a n : ℕ) (xs : List ℕ) → a + n ≤ length xs → length (part a n xs) ≡ n
+unfolding part
+part-length a n xs h =
+    length-take-le (a + n - a) (drop a xs) (omega (arith, length-drop a xs)) ∙ omega arith
+
+pub rev-length : (graph : List ℕ) (positions : ℕ) → positions ≤ 8192 → 18433 ≤ length graph
+    → length (revIn graph positions) ≡ positions
+unfolding revIn
+rev-length graph positions few long = part-length 8192 positions graph (omega arith)
+
+pub labels-length : (graph : List ℕ) (nodes : ℕ) → nodes ≤ 1024 → 18433 ≤ length graph
+    → length (labelsIn graph nodes) ≡ nodes
+unfolding labelsIn
+labels-length graph nodes few long = part-length 17409 nodes graph (omega arith)

@@ -1,0 +1,151 @@
+-- The rounds of a packed game: what a round strikes out, and what the last one leaves. Assumes nothing.
+use mathlib.Core.Path.{_≡_, refl, sym, ap, _∙_, subst}
+use mathlib.Core.Bool.{Bool, not}
+use mathlib.Core.List.{List}
+use Prim.Native.Nat.{ℕ, _+_, _*_, _≤_}
+use native.Mathlib.Omega.{arith}
+use lib.ListN.{length, take, drop, replicate, length-replicate, getD-replicate}
+use lib.Seq.{length-take-le, getD-drop}
+use Rattle.statements.specs.Sets.{numbers, filter, over}
+use Rattle.sets.proofs.Members.{Sifted, filter-length}
+use Rattle.sets.proofs.Iterate.{sifted-few}
+use Rattle.sets.proofs.Over.{over-length, over-back}
+use Rattle.arrays.specs.Lists.{fitting}
+use Rattle.arrays.proofs.Guards.{fitting-yes}
+use Rattle.game.specs.Game.{Can, attractedAll}
+use Rattle.game.specs.Packed.{groupsIn, revIn, startsIn, labelsIn, goalOf, overAt, canIn, heldIn, waitsIn}
+use Rattle.game.specs.Marks.{Marked, without}
+use Rattle.game.specs.Cuts.{waitsAll}
+use Rattle.game.specs.Playing.{Ready, RoundIn, Standing, Rest}
+use Rattle.game.proofs.Begun.{starts-nodes, groups-length}
+use Rattle.game.proofs.Rounds.{cut-round}
+use Rattle.game.proofs.Playing.{round-begin, round-next, round-end, columns-over}
+use Rattle.game.proofs.Standing.{member-can, without-failing}
+
+-- a set at the front of a list has no more nodes than there are
+pub front-few : (n kept : ℕ) (list : List ℕ) → kept ≤ length list → Sifted (numbers n 0) (take kept list) → kept ≤ n
+front-few n kept list h s = omega (arith, length-take-le kept list h, sifted-few n (take kept list) s)
+
+-- and no fewer than those of it that pass a test
+pub front-left : (test : ℕ → Bool) (kept left : ℕ) (list : List ℕ) → kept ≤ length list
+    → left ≡ length (filter test (take kept list)) → left ≤ kept
+front-left test kept left list h e = omega (arith, length-take-le kept list h, filter-length test (take kept list))
+
+-- where the nodes that fail a test are struck out those that pass it are left
+pub struck : (gs starts rev set member live dead gone left : List ℕ) (test : ℕ → Bool)
+    → gone ≡ filter (λ x. not (test x)) set → left ≡ filter test set
+    → Marked gs starts rev (without gone set) member live dead → Marked gs starts rev left member live dead
+struck gs starts rev set member live dead gone left test eg el m =
+    subst (λ (s : List ℕ). Marked gs starts rev s member live dead)
+    (ap (λ (g : List ℕ). without g set) eg ∙ (without-failing test set ∙ sym el)) m
+
+-- a list copied over the front of another
+module _ (xs old new : List ℕ) (h : length xs ≤ length old) (e : new ≡ over (fitting xs old) old) where
+  copied-is : new ≡ over xs old
+  copied-is = e ∙ ap (λ (l : List ℕ). over l old) (fitting-yes xs old h)
+
+  pub copied-length : length new ≡ length old
+  copied-length = ap length copied-is ∙ over-length xs old h
+
+  pub copied-front : take (length xs) new ≡ xs
+  copied-front = ap (take (length xs)) copied-is ∙ over-back xs old (length xs) refl
+
+-- the same from a place on after two changes
+pub rest-more : {place : ℕ} {old mid new : List ℕ} → Rest place old mid → Rest place mid new → Rest place old new
+rest-more a b = record { long = b .long ∙ a .long; stays = b .stays ∙ a .stays }
+
+module _ (graph : List ℕ) (nodes groups positions goals : ℕ) where
+  -- the tests of the game, and the marks of a set of it
+  abbrev can : Can
+  can = canIn graph nodes groups positions
+
+  abbrev done : ℕ → Bool
+  done = overAt (labelsIn graph nodes)
+
+  abbrev goal : ℕ → ℕ → Bool
+  goal = goalOf (labelsIn graph nodes)
+
+  abbrev pub MarkedIn : List ℕ → List ℕ → List ℕ → List ℕ → Type 0
+  MarkedIn set member live dead =
+      Marked (groupsIn graph groups) (startsIn graph nodes) (revIn graph positions) set member live dead
+
+  -- a round is about to begin: its set at the front of the list, marked, and what the rounds before have left
+  pub record Outset (start waits₀ member live dead waits scratch queue list : List ℕ) (kept : ℕ) : Type 0 where
+    pub room : kept ≤ length list
+    pub marked : MarkedIn (take kept list) member live dead
+    pub round : RoundIn graph nodes groups positions goals start (take kept list) 0 (drop 8192 scratch) waits
+    pub rest : Rest (goals * nodes) waits₀ waits
+    pub scratch-long : length scratch ≡ 8200
+    pub queue-long : length queue ≡ 1024
+    pub list-long : length list ≡ 1024
+
+  module _ (ready : Ready graph nodes groups positions goals) where
+    -- the marks of a set are those of the game
+    pub standing : (set member live dead : List ℕ) → MarkedIn set member live dead
+        → (nodes ≤ length member) × Standing graph nodes groups positions set member
+    unfolding canIn
+    standing set member live dead m =
+        let few = starts-nodes graph nodes (ready .few-nodes) (ready .long) in
+        let gl = groups-length graph groups (omega (arith, ready .few-groups, ready .long)) in (
+          omega (arith, few, m .member-long),
+          λ x h.
+              member-can (groupsIn graph groups) (startsIn graph nodes) (revIn graph positions)
+              (λ g l. ready .full g (omega (arith, gl))) set member live dead m x (omega (arith, few)),
+        )
+
+    -- the first round
+    pub first-round : (start waits member live dead list old : List ℕ) → Sifted (numbers nodes 0) start
+        → MarkedIn start member live dead → length old ≡ 1024 → list ≡ over (fitting start old) old
+        → Outset start waits member live dead waits (replicate 8200 65535) (replicate 1024 0) list (length start)
+    first-round start waits member live dead list old s m lo e =
+        let h : length start ≤ length old = omega (arith, sifted-few nodes start s, ready .few-nodes) in
+        let long = copied-length start old list h e in
+        let front = copied-front start old list h e in
+        record {
+          room = omega arith;
+          marked = subst (λ (set : List ℕ). MarkedIn set member live dead) (sym front) m;
+          round =
+              subst
+              (λ (set : List ℕ).
+              RoundIn graph nodes groups positions goals start set 0 (drop 8192 (replicate 8200 65535)) waits)
+              (sym front)
+              (round-begin can done goal nodes goals start (ready .few-nodes) (drop 8192 (replicate 8200 65535)) waits s
+              (λ i l.
+              getD-drop 8192 (replicate 8200 65535) i 0
+              ∙ getD-replicate 8200 (8192 + i) 65535 0 (omega (arith, ready .few-goals))));
+          rest = record { long = refl; stays = refl };
+          scratch-long = length-replicate {A = ℕ} 8200 65535;
+          queue-long = length-replicate {A = ℕ} 1024 0;
+          list-long = omega arith;
+        }
+
+    -- all goals are reached, and the nodes with a wait for each are left
+    module _ (start set last waits : List ℕ) (r : RoundIn graph nodes groups positions goals start set goals last waits)
+        (left : List ℕ) (cut : left ≡ filter (waitsAll waits nodes goals) set) where
+      left-is : left ≡ attractedAll goals can done goal set
+      left-is =
+          cut
+          ∙ cut-round can done goal nodes goals set (r .sifted) (ready .few-nodes) waits
+          (λ i x hi hx. r .reached i hi .column x hx)
+
+      -- the next round is about them
+      pub next-round : RoundIn graph nodes groups positions goals start left 0 last waits
+      next-round =
+          round-next can done goal nodes goals start (ready .few-nodes) set last waits r left left-is
+
+      -- or they are as many as before
+      module _ (still : length set ≤ length left) where
+        pub last-held : heldIn graph nodes groups positions goals start ≡ set
+        unfolding heldIn
+        last-held =
+            round-end can done goal nodes goals start (ready .few-nodes) set last waits r left left-is still
+
+        -- and the waits are those of the nodes left in the end
+        pub last-waits : (old : List ℕ) → goals * nodes ≤ length old → Rest (goals * nodes) old waits
+            → waits
+            ≡ over (waitsIn graph nodes groups positions goals (heldIn graph nodes groups positions goals start)) old
+        unfolding waitsIn
+        last-waits old room rest =
+            subst (λ (all : List ℕ). waits ≡ over (waitsIn graph nodes groups positions goals all) old) (sym last-held)
+            (columns-over can done goal nodes goals set old waits (λ i x hi hx. r .reached i hi .column x hx)
+            (omega (arith, rest .long)) (rest .stays))

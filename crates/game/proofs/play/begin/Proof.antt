@@ -1,0 +1,189 @@
+-- `game::play::begin` meets its contract: the nodes that have a group are marked, and those that the list leaves out
+-- are struck out. Assumes nothing.
+use mathlib.Core.Path.{_≡_, ap, sym, _∙_}
+use mathlib.Core.List.{List}
+use Prim.Native.Nat.{ℕ}
+use native.Mathlib.Omega.{arith}
+use denote.Ref.{now}
+use lib.ListN.{length, take}
+use lib.Seq.{length-take-le}
+use Rattle.statements.specs.Sets.{numbers}
+use Rattle.game.specs.Walked.{nodes}
+use Rattle.game.specs.Packed.{part, groupsIn, revIn, startsIn}
+use Rattle.game.specs.Marks.{Marked, without}
+use Rattle.game.proofs.Begun.{starts-nodes, groups-length, front-room}
+use Rattle.game.proofs.Standing.{begun, others-below, without-others}
+use borrow.Author.Needs.{needs}
+use Rattle.game.proofs.play.begin.Statement.{statement}
+use Rattle.game.proofs.play.begin.Tie as tie
+
+-- the calls before the last, and the function's entry
+abbrev rested : tie.After-strike-arg3 → tie.After-rest
+rested c = c .before .before .before .before
+
+abbrev opened : tie.After-rest → tie.After-open
+opened c = c .before .before .before .before
+
+abbrev tallied : tie.After-open → tie.After-tally
+tallied c = c .before .before .before .before .before
+
+abbrev entry : tie.After-tally → tie.Start
+entry c = c .before .before .before .before .before .before .before .before
+
+-- the nodes to strike out are at the front
+gone-front : (c : tie.After-rest) → c .rest .result ≡ length (take (c .rest .result) (c .rest .last .1 .1 .0))
+gone-front c = c .rest .ensures .1 ∙ sym (ap length (c .rest .ensures .0))
+
+-- before any node is struck out
+all-marked : (c : tie.After-rest)
+    → let s = entry (tallied (opened c)) in
+    let graph = now (s .args .graph) in
+    let starts = startsIn graph (s .args .game .nodes) in
+    Marked (groupsIn graph (s .args .game .groups)) starts (revIn graph (s .args .game .positions))
+    (numbers (nodes starts) 0) (opened c .open .last .1 .1 .0) (tallied (opened c) .tally .last .1 .0)
+    (now (s .args .dead))
+unfolding part groupsIn revIn startsIn
+all-marked c =
+    let o = opened c in
+    let t = tallied o in
+    let s = entry t in
+    let p = s .pre in
+    let graph = now (s .args .graph) in
+    let n = s .args .game .nodes in
+    let gl = groups-length graph (s .args .game .groups) (omega (arith, p .0 .few-groups, p .0 .long)) in
+    let nl = starts-nodes graph n (p .0 .few-nodes) (p .0 .long) in
+    begun _ _ _ (p .0 .index) _ _ _ (λ g h. p .1 .1 .1 .1 .1 g (omega arith))
+    (λ x h. t .tally .ensures x (omega (arith, p .1 .1 .1 .0 .0))) (λ x h. o .open .ensures x (omega arith))
+    (omega (arith, nl, p .1 .1 .0 .0, o .open .kept .1 .1 .0))
+    (omega (arith, nl, p .1 .1 .1 .0 .0, t .tally .kept .1 .0)) (omega (arith, gl, p .1 .1 .1 .1 .0))
+
+slice-aggregate-tally : tie.Need-slice-aggregate-tally
+slice-aggregate-tally c =
+    let s = c .before .before .before .before .before .before in
+    sym (length-take-le (s .args .game .groups) (now (s .args .graph))
+    (omega (arith, s .pre .0 .few-groups, s .pre .0 .long)))
+
+tally-requires : tie.Need-tally-requires
+unfolding part groupsIn revIn startsIn
+tally-requires c κs =
+    let s = c .before .before .before .before .before .before .before in
+    let p = s .pre in
+    let graph = now (s .args .graph) in
+    let nl = starts-nodes graph (s .args .game .nodes) (p .0 .few-nodes) (p .0 .long) in
+    let gl = groups-length graph (s .args .game .groups) (omega (arith, p .0 .few-groups, p .0 .long)) in (
+      omega (arith, gl, p .0 .few-groups),
+      λ a h. omega (arith, p .0 .index .of-node a h, nl, p .1 .1 .1 .0 .0),
+      p .1 .1 .1 .0 .1,
+    )
+
+open-requires : tie.Need-open-requires
+open-requires c κs = search needs
+
+slice-aggregate-rest : tie.Need-slice-aggregate-rest
+slice-aggregate-rest c = search needs
+
+rest-requires : tie.Need-rest-requires
+rest-requires c κs = search needs
+
+add-strike : tie.Need-add-strike
+add-strike c = search needs
+
+sub-strike : tie.Need-sub-strike
+sub-strike c = search needs
+
+part-strike-start : tie.Need-part-strike-start
+part-strike-start c = search needs
+
+part-strike-end : tie.Need-part-strike-end
+part-strike-end c = search needs
+
+add-strike-2 : tie.Need-add-strike-2
+add-strike-2 c = search needs
+
+add-strike-3 : tie.Need-add-strike-3
+add-strike-3 c = search needs
+
+sub-strike-2 : tie.Need-sub-strike-2
+sub-strike-2 c = search needs
+
+part-strike-start-2 : tie.Need-part-strike-start-2
+part-strike-start-2 c = search needs
+
+part-strike-end-2 : tie.Need-part-strike-end-2
+part-strike-end-2 c = search needs
+
+slice-aggregate-strike : tie.Need-slice-aggregate-strike
+slice-aggregate-strike c =
+    let s = entry (tallied (opened (rested c))) in
+    sym (length-take-le (s .args .game .groups) (now (s .args .graph))
+    (omega (arith, s .pre .0 .few-groups, s .pre .0 .long)))
+
+array-share-prefix-gone : tie.Need-array-share-prefix-gone
+array-share-prefix-gone c = front-room _ _ (gone-front (rested c))
+
+slice-aggregate-strike-2 : tie.Need-slice-aggregate-strike-2
+slice-aggregate-strike-2 c = gone-front (rested (c .before))
+
+strike-requires : tie.Need-strike-requires
+unfolding part groupsIn revIn startsIn
+strike-requires c κs =
+    let r = rested (c .before .before .before .before) in
+    let s = entry (tallied (opened r)) in
+    let p = s .pre in
+    let n = s .args .game .nodes in
+    let nl = starts-nodes (now (s .args .graph)) n (p .0 .few-nodes) (p .0 .long) in (
+      p .0 .index,
+      (
+        λ x h. omega (arith, nl, others-below n (now (s .args .start)) x (rw (r .rest .ensures .0) at h)),
+        (_, all-marked r),
+      ),
+    )
+
+same-length : tie.Need-same-length
+same-length c = search needs
+
+same-length-2 : tie.Need-same-length-2
+same-length-2 c = search needs
+
+same-length-3 : tie.Need-same-length-3
+same-length-3 c = search needs
+
+returns : tie.Need-returns
+unfolding part groupsIn revIn startsIn
+returns c =
+    let strike = c .before .before .before .before .before .before in
+    let r = rested (strike .before .before .before .before .before) in
+    let s = entry (tallied (opened r)) in
+    let p = s .pre in
+    let n = s .args .game .nodes in
+    let nl = starts-nodes (now (s .args .graph)) n (p .0 .few-nodes) (p .0 .long) in
+    let is : without (take (r .rest .result) (r .rest .last .1 .1 .0)) (numbers n 0) ≡ now (s .args .start) =
+    ap (λ (l : List ℕ). without l (numbers n 0)) (r .rest .ensures .0) ∙ without-others n _ (p .1 .0) in
+    rw is at (rw nl at (strike .strike .ensures _ (all-marked r)))
+
+pub begin-spec : {M : Type 1} → statement M
+begin-spec =
+    tie.close
+    (tie.spec
+    slice-aggregate-tally
+    tally-requires
+    open-requires
+    slice-aggregate-rest
+    rest-requires
+    add-strike
+    sub-strike
+    part-strike-start
+    part-strike-end
+    add-strike-2
+    add-strike-3
+    sub-strike-2
+    part-strike-start-2
+    part-strike-end-2
+    slice-aggregate-strike
+    array-share-prefix-gone
+    slice-aggregate-strike-2
+    strike-requires
+    same-length
+    same-length-2
+    same-length-3
+    returns)

@@ -1,0 +1,252 @@
+-- `game::play::seek` meets its contract: before each turn the goals so far are reached. Assumes nothing.
+use mathlib.Core.Path.{_≡_, _∙_, ap, sym}
+use mathlib.Core.Logic.{⊎-elim}
+use mathlib.Core.List.{List}
+use Prim.Native.Nat.{ℕ, _+_, _-_, _*_, _≤_}
+use native.Mathlib.Omega.{arith}
+use borrow.Author.Needs.{needs}
+use denote.Ref.{now}
+use lib.ListN.{length, take, drop, set, length-set, length-drop}
+use lib.Seq.{length-take-le}
+use Rattle.sets.proofs.Iterate.{sifted-few, sifted-below}
+use Rattle.game.specs.Packed.{part, labelsIn}
+use Rattle.game.proofs.Opening.{labels-length}
+use Rattle.game.proofs.Seeking.{Seeking, Turn, seek-none, seek-skip, seek-turn, seek-reach, seek-end}
+use Rattle.game.proofs.play.seek.Statement.{statement}
+use Rattle.game.proofs.play.seek.Tie as tie
+
+abbrev Inv-loop : tie.InvT-loop
+Inv-loop graph game sizes set member scratch₀ waits₀ queue₀ nodes goal₀ scratch waits queue goal =
+    Seeking graph (game .nodes) (game .groups) (game .positions) (game .goals) set scratch₀ waits₀ scratch waits goal
+    × (length queue ≡ 1024)
+
+abbrev μ-loop : tie.MeasureT-loop
+μ-loop graph game sizes set member scratch₀ waits₀ queue₀ nodes goal₀ scratch waits queue goal = game .goals - goal
+
+-- the function's entry, seen from the loop, and a turn's begin, seen from its `if`
+abbrev entry : tie.At-loop Inv-loop μ-loop → tie.Start Inv-loop μ-loop
+entry c = c .before .before .before .before .before .before .before .before
+
+abbrev turned : tie.After-slice-known5 Inv-loop μ-loop → tie.Then1 Inv-loop μ-loop
+turned c = c .before .before .before .before .before .before
+
+loop-holds : tie.Need-loop-holds Inv-loop μ-loop
+loop-holds c =
+    let room = c .before .before .before .before .before .before .before .pre .1 .1 .1 .1 in
+    (seek-none (room .0), room .1 .1)
+
+add-aim : tie.Need-add-aim Inv-loop μ-loop
+add-aim c = search needs
+
+sub-aim : tie.Need-sub-aim Inv-loop μ-loop
+sub-aim c = search needs
+
+part-aim-start : tie.Need-part-aim-start Inv-loop μ-loop
+part-aim-start c = search needs
+
+part-aim-end : tie.Need-part-aim-end Inv-loop μ-loop
+part-aim-end c = search needs
+
+aim-requires : tie.Need-aim-requires Inv-loop μ-loop
+unfolding part labelsIn
+aim-requires c κs =
+    let l = c .before .before .before .before in
+    let p = entry l .pre in
+    let g = now (entry l .args .graph) in
+    let n = entry l .args .game .nodes in
+    let few = sifted-few n (now (entry l .args .set)) (p .1 .1 .0) in (
+      λ x h.
+          let low = sifted-below n (now (entry l .args .set)) (p .1 .1 .0) x h in
+          (omega (arith, labels-length g n (p .0 .few-nodes) (p .0 .long)), omega (arith, p .1 .1 .1 .0 .0)),
+      (
+        omega (arith, p .0 .few-goals, c .before .before .if1 .taken),
+        (omega (arith, few, p .0 .few-nodes, l .loop .inv .1), omega (arith, few, p .0 .few-nodes)),
+      ),
+    )
+
+add-if2 : tie.Need-add-if2 Inv-loop μ-loop
+add-if2 c = search needs
+
+mul-if2 : tie.Need-mul-if2 Inv-loop μ-loop
+mul-if2 c = search needs
+
+slice-read-if2 : tie.Need-slice-read-if2 Inv-loop μ-loop
+slice-read-if2 c = search needs
+
+-- the targets are in line, and there is room for the column
+turn : (c : tie.After-slice-known5 Inv-loop μ-loop)
+    → let l = turned c .before .before in
+    let aim = c .before .before .before .aim in
+    Turn (entry l .args .game .nodes) (entry l .args .game .goals) (l .loop .waits) (l .loop .goal) (aim .result)
+    (take (aim .result) (aim .last .1 .1 .1 .1 .0))
+unfolding part labelsIn
+turn c =
+    let l = turned c .before .before in
+    let p = entry l .pre in
+    let aim = c .before .before .before .aim in
+    seek-turn _ (p .0) (p .1 .1 .0) (p .1 .1 .1 .0 .1) (l .loop .inv .0) (turned c .if1 .taken) (aim .ensures .0)
+    (p .1 .1 .1 .1 .1 .0) (aim .ensures .1)
+
+-- the scratch numbers when that of the targets is noted, and their front
+abbrev noted : tie.After-slice-known5 Inv-loop μ-loop → List ℕ
+noted c =
+    let l = turned c .before .before in
+    set (l .loop .scratch) (8192 + l .loop .goal) (c .before .before .before .aim .result)
+
+noted-long : (c : tie.After-slice-known5 Inv-loop μ-loop) → 8192 ≤ length (noted c)
+noted-long c =
+    let l = turned c .before .before .loop in
+    omega (
+      arith,
+      length-set (l .scratch) (8192 + l .goal) (c .before .before .before .aim .result),
+      l .inv .0 .long,
+    )
+
+front-long : (c : tie.After-slice-known5 Inv-loop μ-loop) → length (take 8192 (noted c)) ≡ 8192
+front-long c = length-take-le 8192 (noted c) (noted-long c)
+
+cast-if2 : tie.Need-cast-if2 Inv-loop μ-loop
+cast-if2 c = omega (arith, c .slice-known5 .given (8192 + turned c .before .before .loop .goal))
+
+cast-scratch : tie.Need-cast-scratch Inv-loop μ-loop
+cast-scratch c = omega (arith, turn (c .before) .few, entry (turned (c .before) .before .before) .pre .0 .few-nodes)
+
+add-scratch : tie.Need-add-scratch Inv-loop μ-loop
+add-scratch c = search needs
+
+mul-scratch : tie.Need-mul-scratch Inv-loop μ-loop
+mul-scratch c = search needs
+
+slice-write-scratch : tie.Need-slice-write-scratch Inv-loop μ-loop
+slice-write-scratch c = search needs
+
+mul-from : tie.Need-mul-from Inv-loop μ-loop
+mul-from c = omega (arith, turn (c .before) .room)
+
+slice-relend-prefix-reach : tie.Need-slice-relend-prefix-reach Inv-loop μ-loop
+slice-relend-prefix-reach c = noted-long (c .before)
+
+slice-aggregate-reach : tie.Need-slice-aggregate-reach Inv-loop μ-loop
+slice-aggregate-reach c = sym (front-long (c .before .before))
+
+add-reach : tie.Need-add-reach Inv-loop μ-loop
+add-reach c = omega (arith, turn (c .before .before) .room)
+
+mul-reach : tie.Need-mul-reach Inv-loop μ-loop
+mul-reach c = omega (arith, turn (c .before .before) .room)
+
+sub-reach : tie.Need-sub-reach Inv-loop μ-loop
+sub-reach c = omega (arith, turn (c .before .before) .room)
+
+part-reach-start : tie.Need-part-reach-start Inv-loop μ-loop
+part-reach-start c = omega (arith, turn (c .before .before) .room)
+
+part-reach-end : tie.Need-part-reach-end Inv-loop μ-loop
+part-reach-end c = omega (arith, turn (c .before .before) .room)
+
+reach-requires : tie.Need-reach-requires Inv-loop μ-loop
+unfolding part labelsIn
+reach-requires c κs =
+    let f = c .before .before .before .before in
+    let l = turned f .before .before in
+    let p = entry l .pre in
+    let n = entry l .args .game .nodes in
+    let aim = f .before .before .before .aim in
+    let from = l .loop .goal * n in
+    let t = turn f in
+    let long = length-take-le (from + n - from) (drop from (l .loop .waits))
+    (omega (arith, length-drop from (l .loop .waits), t .room)) in (
+      (p .0 .few-nodes, (p .0 .few-groups, (p .0 .few-positions, p .0 .long))),
+      (
+        p .0 .index,
+        (
+          p .1 .0,
+          (
+            (
+              long ∙ omega arith,
+              (
+                omega (arith, p .0 .few-nodes, aim .kept .1 .1 .1 .1 .0, l .loop .inv .1),
+                (p .1 .1 .1 .0 .0, omega (arith, p .0 .few-groups, front-long f)),
+              ),
+            ),
+            (t .size, t .sifted),
+          ),
+        ),
+      ),
+    )
+
+add-goal : tie.Need-add-goal Inv-loop μ-loop
+add-goal c = search needs
+
+loop-less : tie.Need-loop-less Inv-loop μ-loop
+loop-less c = search needs
+
+loop-again : tie.Need-loop-again Inv-loop μ-loop
+unfolding part labelsIn
+loop-again c =
+    let l = turned (c .before) .before .before in
+    let p = entry l .pre in
+    let aim = c .before .before .before .before .aim in
+    let low = turned (c .before) .if1 .taken in
+    ⊎-elim
+    (λ w. (
+      seek-reach _ (p .0) (p .1 .1 .0) (p .1 .1 .1 .0 .1) (l .loop .inv .0) low (aim .ensures .0) _
+          (w .4 .last .1 .1 .1 .1 .0) (w .4 .last .1 .1 .1 .1 .1 .0) (p .1 .1 .1 .1 .1 .0) (aim .ensures .1)
+          (w .4 .kept .1 .1 .1 .1 .0 ∙ front-long (c .before)) (w .4 .ensures) (w .11) (w .12),
+      ap length (w .13) ∙ (w .4 .kept .1 .1 .1 .1 .1 .1 .0 ∙ (aim .kept .1 .1 .1 .1 .0 ∙ l .loop .inv .1)),
+    ))
+    (λ w. (
+      rw (w .1, w .2)
+          (seek-skip _ (p .0) (p .1 .1 .0) (p .1 .1 .1 .0 .1) (l .loop .inv .0) low (aim .ensures .0) (w .0 .left)),
+      ap length (w .3) ∙ (aim .kept .1 .1 .1 .1 .0 ∙ l .loop .inv .1),
+    ))
+    (c .if2 .came)
+
+same-length : tie.Need-same-length Inv-loop μ-loop
+same-length c = c .before .before .loop .inv .0 .long ∙ sym (entry (c .before .before) .pre .1 .1 .1 .1 .0)
+
+same-length-2 : tie.Need-same-length-2 Inv-loop μ-loop
+same-length-2 c = c .before .before .loop .inv .0 .rest .long
+
+same-length-3 : tie.Need-same-length-3 Inv-loop μ-loop
+same-length-3 c = c .before .before .loop .inv .1 ∙ sym (entry (c .before .before) .pre .1 .1 .1 .1 .1 .1)
+
+returns : tie.Need-returns Inv-loop μ-loop
+returns c = seek-end (c .before .before .loop .inv .0) (c .if1 .left)
+
+pub seek-spec : {M : Type 1} → statement M
+seek-spec =
+    tie.close
+    (tie.spec
+    Inv-loop
+    μ-loop
+    loop-holds
+    add-aim
+    sub-aim
+    part-aim-start
+    part-aim-end
+    aim-requires
+    add-if2
+    mul-if2
+    slice-read-if2
+    cast-if2
+    cast-scratch
+    add-scratch
+    mul-scratch
+    slice-write-scratch
+    mul-from
+    slice-relend-prefix-reach
+    slice-aggregate-reach
+    add-reach
+    mul-reach
+    sub-reach
+    part-reach-start
+    part-reach-end
+    reach-requires
+    add-goal
+    loop-less
+    loop-again
+    same-length
+    same-length-2
+    same-length-3
+    returns)

@@ -1,0 +1,22 @@
+-- What the loops over lists of nodes leave: the targets of a goal, the nodes that a list leaves out, and a list cut down
+-- to the nodes with a wait for each goal. Assumes nothing.
+use mathlib.Core.Bool.{Bool, _&&_, _||_, not}
+use mathlib.Core.List.{List}
+use Prim.Native.Nat.{ℕ, _+_, _*_}
+use lib.Dec.{eqb, ltb}
+use lib.ListN.{getD}
+use Rattle.statements.specs.Sets.{numbers, every, isIn, filter}
+use Rattle.game.specs.Packed.{goalOf, overAt}
+
+-- the nodes of a list where a reach to goal i begins: a run is over there, or they are in the goal and marked by 0
+unfoldable pub aimed : List ℕ → List ℕ → ℕ → List ℕ → List ℕ
+aimed labels member i list =
+    filter (λ x. overAt labels x || (goalOf labels i x && ltb (getD member x 0) 1)) list
+
+-- the nodes below n that a list leaves out, rising
+unfoldable pub others : ℕ → List ℕ → List ℕ
+others n list = filter (λ x. not (isIn x list)) (numbers n 0)
+
+-- node x has no mark in place of a wait for any of the goals
+unfoldable pub waitsAll : List ℕ → ℕ → ℕ → ℕ → Bool
+waitsAll waits n goals x = every goals 0 (λ i. not (eqb (getD waits (i * n + x) 0) 65535))

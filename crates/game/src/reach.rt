@@ -1,0 +1,152 @@
+// The reach to a goal within a set: its targets in line, then the walk.
+use crate::spread;
+use arrays::copy;
+use arrays::mark;
+use format::word::bit_at;
+ghost use mathlib.Core.Path.{_≡_};
+ghost use mathlib.Core.Bool.{true, _&&_, _||_};
+ghost use Prim.Native.Nat.{ℕ, suc, _+_, _<_, _≤_};
+ghost use lib.Dec.{ltb};
+ghost use lib.ListN.{length, take, replicate};
+ghost use Rattle.statements.specs.Sets.{bit, isIn, numbers};
+ghost use Rattle.sets.proofs.Members.{Sifted};
+ghost use Rattle.arrays.specs.Lists.{zeroed};
+ghost use Rattle.sort.specs.Steps.{Holds, countOf};
+ghost use Rattle.game.specs.Walked.{walkedWaits};
+ghost use Rattle.game.specs.Steps.{Index};
+ghost use Rattle.game.specs.Packed.{groupsIn, revIn, startsIn};
+ghost use Rattle.game.specs.Cuts.{aimed};
+
+// How many nodes, groups, positions and goals a game has, and how many nodes the set has.
+pub struct Figures {
+    pub nodes: usize,
+    pub groups: usize,
+    pub positions: usize,
+    pub goals: usize,
+    pub kept: usize,
+}
+
+// Bit i of a number, with no test of i: it is read for each node and goal.
+fn bit_in(v: u32, i: u32) -> bool
+    requires { ⌜ i < 32 ⌝ }
+    ensures { λ r. ⌜ r ≡ bit i v ⌝ }
+{
+    (v >> i) % 2 == 1
+}
+
+// Whether a reach to a goal begins at a node with a label: a run is over there, or it is in the goal and marked by 0.
+fn begins(label: u16, goal: usize, out: u16) -> bool
+    requires { ⌜ goal < 8 ⌝ }
+    ensures { λ r. ⌜ r ≡ (bit 15 label || (bit (suc goal) label && ltb out 1)) ⌝ }
+{
+    let bits = label as u32;
+    bit_at(bits, 15) | (bit_in(bits, goal as u32 + 1) & (out < 1))
+}
+
+// Lists the nodes at which a reach to a goal begins; returns how many they are.
+pub(crate) fn aim(
+    labels: &[u16],
+    list: &[u16],
+    member: &[u16],
+    goal: usize,
+    queue: &mut [u16],
+) -> usize
+    requires nodes { ⌜ ((x : ℕ) → isIn x (now list) ≡ true → (x < length (now labels)) × (x < length (now member))) ⌝ }
+    requires room { ⌜ (goal < 8) × ((length (now list) ≤ length (now queue)) × (length (now list) ≤ 1024)) ⌝ }
+    ensures number { λ r. ⌜ r ≡ length (aimed (now (labels .entry)) (now (member .entry)) goal (now (list .entry))) ⌝ }
+    ensures list { λ r. ⌜ take r (now (queue .exit))
+        ≡ aimed (now (labels .entry)) (now (member .entry)) goal (now (list .entry)) ⌝ }
+{
+    let mut tail = 0;
+    let mut k = 0;
+    while k < list.len() {
+        let node = list[k];
+        let x = node as usize;
+        if begins(labels[x], goal, member[x]) {
+            queue[tail] = node;
+            tail += 1;
+        }
+        k += 1;
+    }
+    tail
+}
+
+// The walk from the targets in line, where every wait is the mark: the wait of each node.
+fn from_line(
+    graph: &[u16],
+    game: Figures,
+    sizes: &[u16],
+    member: &[u16],
+    counts: &mut [u16],
+    waits: &mut [u16],
+    queue: &mut [u16],
+    tail: usize,
+)
+    requires small { ⌜ (game .nodes ≤ 1024) × ((game .groups ≤ 8192) × ((game .positions ≤ 8192)
+        × (18433 ≤ length (now graph)))) ⌝ }
+    requires index { ⌜ Index (revIn (now graph) (game .positions)) (startsIn (now graph) (game .nodes))
+        (groupsIn (now graph) (game .groups)) ⌝ }
+    requires sizes { ⌜ (game .groups ≤ length (now sizes)) × Holds (game .groups)
+        (countOf (revIn (now graph) (game .positions)) (length (revIn (now graph) (game .positions)))) (now sizes) ⌝ }
+    requires room { ⌜ (now waits ≡ replicate (game .nodes) 65535) × ((game .nodes ≤ length (now queue))
+        × ((game .nodes ≤ length (now member)) × (game .groups ≤ length (now counts)))) ⌝ }
+    requires line { ⌜ (tail ≡ length (take tail (now queue))) × Sifted (numbers (game .nodes) 0) (take tail (now queue)) ⌝ }
+    ensures { λ _. ⌜ now (waits .exit) ≡ walkedWaits (groupsIn (now (graph .entry)) (game .groups))
+        (startsIn (now (graph .entry)) (game .nodes)) (revIn (now (graph .entry)) (game .positions))
+        (now (member .entry)) (zeroed (take tail (now (queue .entry))) (replicate (game .nodes) 65535)) ⌝ }
+{
+    let nodes = game.nodes;
+    let groups = game.groups;
+    let positions = game.positions;
+    mark(&queue[..tail], waits);
+    copy(&sizes[..groups], counts);
+    spread(
+        &graph[8192..8192 + positions],
+        &graph[16384..16384 + (nodes + 1)],
+        &graph[..groups],
+        member,
+        counts,
+        waits,
+        queue,
+        tail,
+    );
+}
+
+// The reach from the targets in line: the wait of each node, from an array of waits that are all the mark.
+pub(crate) fn reach(
+    graph: &[u16],
+    game: Figures,
+    sizes: &[u16],
+    member: &[u16],
+    counts: &mut [u16],
+    waits: &mut [u16],
+    queue: &mut [u16],
+    tail: usize,
+)
+    requires small { ⌜ (game .nodes ≤ 1024) × ((game .groups ≤ 8192) × ((game .positions ≤ 8192)
+        × (18433 ≤ length (now graph)))) ⌝ }
+    requires index { ⌜ Index (revIn (now graph) (game .positions)) (startsIn (now graph) (game .nodes))
+        (groupsIn (now graph) (game .groups)) ⌝ }
+    requires sizes { ⌜ (game .groups ≤ length (now sizes)) × Holds (game .groups)
+        (countOf (revIn (now graph) (game .positions)) (length (revIn (now graph) (game .positions)))) (now sizes) ⌝ }
+    requires room { ⌜ (length (now waits) ≡ game .nodes) × ((game .nodes ≤ length (now queue))
+        × ((game .nodes ≤ length (now member)) × (game .groups ≤ length (now counts)))) ⌝ }
+    requires line { ⌜ (tail ≡ length (take tail (now queue))) × Sifted (numbers (game .nodes) 0) (take tail (now queue)) ⌝ }
+    ensures { λ _. ⌜ now (waits .exit) ≡ walkedWaits (groupsIn (now (graph .entry)) (game .groups))
+        (startsIn (now (graph .entry)) (game .nodes)) (revIn (now (graph .entry)) (game .positions))
+        (now (member .entry)) (zeroed (take tail (now (queue .entry))) (replicate (game .nodes) 65535)) ⌝ }
+{
+    let nodes = game.nodes;
+    let mut held = [65535u16; 1024];
+    from_line(
+        graph,
+        game,
+        sizes,
+        member,
+        counts,
+        &mut held[..nodes],
+        queue,
+        tail,
+    );
+    copy(&held[..nodes], waits);
+}
