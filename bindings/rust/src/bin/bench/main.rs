@@ -33,7 +33,8 @@
 //!
 //! `bench --count FAMILY STATES [PLANTS [SOLVER]]` measures nothing: it makes one make and one withdrawal for each of
 //! so many plants of a family (twelve), by one solver (the first), for a tool that counts instructions, as
-//! `tests/counts.sh` does. `bench --families` prints the names of the families that are not slow.
+//! `tests/counts.sh` does. `bench --families` prints the names of the families that are not slow, and
+//! `bench --only FAMILY...` measures no others.
 
 mod cases;
 mod clock;
@@ -64,11 +65,12 @@ fn main() {
     let words: Vec<String> = std::env::args().skip(1).collect();
     match words.iter().map(String::as_str).collect::<Vec<_>>()[..] {
         [] => print_all(&planners),
+        ["--only", ref names @ ..] => print_only(&planners, names),
         ["--families"] => quick_families().for_each(|family| println!("{}", family.name())),
         ["--count", family, states, ref more @ ..] if more.len() <= 2 => {
             count::run(&planners, family, states, more.first().copied(), more.get(1).copied());
         }
-        _ => panic!("bench, bench --families or bench --count FAMILY STATES [PLANTS [SOLVER]]"),
+        _ => panic!("bench, bench --only FAMILY..., bench --families or bench --count FAMILY STATES [PLANTS [SOLVER]]"),
     }
 }
 
@@ -81,6 +83,15 @@ fn print_all(planners: &[&dyn Calls]) {
     print_mean_ratio(RATIOS[1], &all);
     slow::print_lookups(planners);
     slow::print_slow(planners);
+}
+
+/// The families of these names, and nothing else.
+fn print_only(planners: &[&dyn Calls], names: &[&str]) {
+    print_heading(planners);
+    for name in names {
+        let family = quick_families().find(|family| family.name() == *name).expect("the name of a family");
+        print_family(planners, family);
+    }
 }
 
 /// The families that all calls are measured on.
