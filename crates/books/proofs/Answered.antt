@@ -1,16 +1,17 @@
--- What the calls that write a book answer. A call passes when all its checks but that of the plant's arrows do; then
--- the book written tells whether the arrows are good too. Assumes nothing.
+-- What the calls that write a book answer. A call passes when its checks ahead of loading do; then the book written
+-- tells whether the plant is accepted. Assumes nothing.
 use mathlib.Core.Path.{_≡_, refl, sym, ap, _∙_}
 use mathlib.Core.Logic.{inl, inr}
-use mathlib.Core.Bool.{Bool, true, false, not}
+use mathlib.Core.Bool.{true, false}
 use mathlib.Core.List.{List, []}
 use Prim.Native.Nat.{ℕ, _*_, _≤_}
 use native.Mathlib.Omega.{arith}
+use lib.Dec.{eqb}
 use lib.ListN.{length, take}
 use lib.Bits.{bitOr}
-use borrow.Author.Tests.{ne-eqb}
+use borrow.Author.Tests.{eqb-true, eq-eqb, ne-eqb}
 use Rattle.statements.specs.Sets.{pick, over}
-use Rattle.statements.specs.Plants.{plantOf, when}
+use Rattle.statements.specs.Plants.{plantOf, plantFault}
 use Rattle.statements.specs.Books.{bytesOf, bookStates, bookMask, madeBook, withdrawnBook, returnedBook, gainedStates}
 use Rattle.statements.specs.Books.{masksOf, unionOf}
 use Rattle.statements.specs.Calls.{makeFault, withdrawFault, withdrawListFault, returnFault}
@@ -18,10 +19,9 @@ use Rattle.sets.proofs.Tests.{decided, not-both, same-number}
 use Rattle.sets.proofs.Over.{over-back}
 use Rattle.decoding.proofs.Sizes.{drops-fit}
 use Rattle.demands.proofs.Returning.{gained-dropped, returning}
-use Rattle.format.specs.Checks.{arrowsFine}
-use Rattle.refusals.specs.ButArrows.{makeButArrows, withdrawButArrows, listButArrows}
-use Rattle.refusals.proofs.ButArrows.{make-left, make-exactly, withdraw-passes, passes-states}
-use Rattle.refusals.proofs.ButArrows.{withdraw-left, withdraw-exactly, list-left, list-exactly}
+use Rattle.refusals.specs.Ahead.{makeAhead, withdrawAhead, listAhead}
+use Rattle.refusals.proofs.Ahead.{make-left, make-exactly, withdraw-passes, passes-states}
+use Rattle.refusals.proofs.Ahead.{withdraw-left, withdraw-exactly, list-left, list-exactly}
 use Rattle.writing.specs.Written.{droppedCount, writtenDrops}
 use Rattle.writing.proofs.Drops.{room-listed}
 use Rattle.promises.specs.declared.Answer.{Answer}
@@ -44,19 +44,18 @@ writes-refused n number after listed o d e en h =
       list = rw no;
     })
 
--- what one that passes answers
-module _ (arrows : Bool) (number long : ℕ) (new listed o d : List ℕ) {o′ : List ℕ}
-    (left : number ≡ when (not arrows) 3) (size : long ≡ pick arrows (length new) 0)
-    (wrote : o′ ≡ pick arrows (over new o) o) where
-  -- without a book: 3
-  pub writes-3 : {r : Answer} → 16 ≤ length new → long ≡ 0 → r ≡ record { number = 3; length = 0; drops = 0 }
-      → Writes number new listed o o′ d d r
-  writes-3 {r} some none e =
-      elim (decided arrows) [
+-- what one that passes answers: the plant's fault
+module _ (fault number long : ℕ) (new listed o d : List ℕ) {o′ : List ℕ} (left : number ≡ fault)
+    (size : long ≡ pick (eqb fault 0) (length new) 0) (wrote : o′ ≡ pick (eqb fault 0) (over new o) o) where
+  -- without a book it is refused
+  pub writes-none : (n : ℕ) {r : Answer} → 16 ≤ length new → long ≡ 0 → r ≡ record { number = n; length = 0; drops = 0 }
+      → n ≡ number → Writes number new listed o o′ d d r
+  writes-none n {r} some none e en =
+      elim (decided (eqb fault 0)) [
         | inl t ↦ absurd (omega (arith, rw t at size))
         | inr f ↦
             rw (rw f at wrote)
-            (writes-refused 3 number new listed o d e (sym (rw f at left)) (λ z. omega arith))
+            (writes-refused n number new listed o d e en (λ z. not-both (eq-eqb _ _ (sym left ∙ sym en ∙ z)) f))
       ]
 
   -- with one: it is written, and the list by what is read back of it
@@ -64,12 +63,13 @@ module _ (arrows : Bool) (number long : ℕ) (new listed o d : List ℕ) {o′ :
       → (number ≡ 0 → take long o′ ≡ new → (count ≡ length listed) × (d′ ≡ over (bytesOf listed) d))
       → Writes number new listed o o′ d d′ (record { number = 0; length = long; drops = count })
   writes-0 some lists =
-      elim (decided arrows) [
+      elim (decided (eqb fault 0)) [
         | inl t ↦
+            let zero = left ∙ eqb-true _ _ t in
             let is = rw t at size in
             let book = rw t at wrote in
-            let list = lists (rw t at left) (ap (take long) book ∙ over-back new o long is) in
-            record { number = sym (rw t at left); length-is = is; drops = list .0; book = book; list = list .1 }
+            let list = lists zero (ap (take long) book ∙ over-back new o long is) in
+            record { number = sym zero; length-is = is; drops = list .0; book = book; list = list .1 }
         | inr f ↦ absurd (some (rw f at size))
       ]
 
@@ -77,7 +77,7 @@ module _ (arrows : Bool) (number long : ℕ) (new listed o d : List ℕ) {o′ :
 module _ (s : List ℕ) (mask : ℕ) (o : List ℕ) where
   -- when it does not pass
   pub make-refused : (n : ℕ) {r : Answer} → r ≡ record { number = n; length = 0; drops = 0 }
-      → n ≡ makeFault s mask (length o) → makeButArrows s mask (length o) ≡ false → MakeSays s mask o o r
+      → n ≡ makeFault s mask (length o) → makeAhead s mask (length o) ≡ false → MakeSays s mask o o r
   make-refused n e en f =
       record {
         writes = writes-refused n _ _ _ o [] e en
@@ -85,15 +85,16 @@ module _ (s : List ℕ) (mask : ℕ) (o : List ℕ) where
       }
 
   -- and when it does
-  module _ (long : ℕ) {o′ : List ℕ} (h : makeButArrows s mask (length o) ≡ true)
-      (size : long ≡ pick (arrowsFine (plantOf s)) (length (madeBook (plantOf s) mask)) 0)
-      (wrote : o′ ≡ pick (arrowsFine (plantOf s)) (over (madeBook (plantOf s) mask) o) o) where
+  module _ (long : ℕ) {o′ : List ℕ} (h : makeAhead s mask (length o) ≡ true)
+      (size : long ≡ pick (eqb (plantFault s) 0) (length (madeBook (plantOf s) mask)) 0)
+      (wrote : o′ ≡ pick (eqb (plantFault s) 0) (over (madeBook (plantOf s) mask) o) o) where
     -- without a book
-    pub make-3 : {r : Answer} → long ≡ 0 → r ≡ record { number = 3; length = 0; drops = 0 } → MakeSays s mask o o′ r
-    make-3 none e =
+    pub make-none : (n : ℕ) {r : Answer} → long ≡ 0 → r ≡ record { number = n; length = 0; drops = 0 }
+        → n ≡ makeFault s mask (length o) → MakeSays s mask o o′ r
+    make-none n none e en =
         record {
-          writes = writes-3 (arrowsFine (plantOf s)) _ long _ _ o [] (make-left s mask (length o) h) size wrote
-              (made-long (plantOf s) mask) none e;
+          writes = writes-none (plantFault s) _ long _ _ o [] (make-left s mask (length o) h) size wrote n
+              (made-long (plantOf s) mask) none e en;
         }
 
     -- with one
@@ -101,7 +102,7 @@ module _ (s : List ℕ) (mask : ℕ) (o : List ℕ) where
     unfolding over bytesOf
     make-done some =
         record {
-          writes = writes-0 (arrowsFine (plantOf s)) _ long _ _ o [] (make-left s mask (length o) h) size wrote some
+          writes = writes-0 (plantFault s) _ long _ _ o [] (make-left s mask (length o) h) size wrote some
               (λ z e. (refl, refl));
         }
 
@@ -110,23 +111,23 @@ module _ (s b : List ℕ) (gone : ℕ) (o d : List ℕ) where
   -- when it does not pass
   pub withdraw-refused : (n : ℕ) {after listed : List ℕ} {r : Answer} → r ≡ record { number = n; length = 0; drops = 0 }
       → n ≡ withdrawFault s b gone (length o) (length d)
-      → withdrawButArrows s b gone (length o) (length d) ≡ false
+      → withdrawAhead s b gone (length o) (length d) ≡ false
       → Writes (withdrawFault s b gone (length o) (length d)) after listed o o d d r
   withdraw-refused n e en f =
       writes-refused n _ _ _ o d e en
       (λ z. not-both (withdraw-exactly s b gone (length o) (length d) .0 (sym en ∙ z) .0) f)
 
   -- and when it does
-  module _ (long : ℕ) {o′ : List ℕ} (h : withdrawButArrows s b gone (length o) (length d) ≡ true)
-      (size : long ≡ pick (arrowsFine (plantOf s)) (length (withdrawnBook (plantOf s) b gone)) 0)
-      (wrote : o′ ≡ pick (arrowsFine (plantOf s)) (over (withdrawnBook (plantOf s) b gone) o) o) where
+  module _ (long : ℕ) {o′ : List ℕ} (h : withdrawAhead s b gone (length o) (length d) ≡ true)
+      (size : long ≡ pick (eqb (plantFault s) 0) (length (withdrawnBook (plantOf s) b gone)) 0)
+      (wrote : o′ ≡ pick (eqb (plantFault s) 0) (over (withdrawnBook (plantOf s) b gone) o) o) where
     -- without a book
-    pub withdraw-3 : {r : Answer} → long ≡ 0 → r ≡ record { number = 3; length = 0; drops = 0 }
-        → WithdrawSays s b gone o o′ d d r
-    withdraw-3 none e =
+    pub withdraw-none : (n : ℕ) {r : Answer} → long ≡ 0 → r ≡ record { number = n; length = 0; drops = 0 }
+        → n ≡ withdrawFault s b gone (length o) (length d) → WithdrawSays s b gone o o′ d d r
+    withdraw-none n none e en =
         record {
-          writes = writes-3 (arrowsFine (plantOf s)) _ long _ _ o d (withdraw-left s b gone (length o) (length d) h)
-              size wrote (withdrawn-long (plantOf s) b gone) none e;
+          writes = writes-none (plantFault s) _ long _ _ o d (withdraw-left s b gone (length o) (length d) h) size
+              wrote n (withdrawn-long (plantOf s) b gone) none e en;
         }
 
     -- with one: the states dropped are listed
@@ -140,27 +141,27 @@ module _ (s b : List ℕ) (gone : ℕ) (o d : List ℕ) where
         let room : 2 * bookStates b ≤ length d = omega (arith, drops-fit p (length d) (ok .drops-ok)) in
         let listed = room-listed b (withdrawnBook p b gone) d room in
         record {
-          writes = writes-0 (arrowsFine p) _ long _ _ o d (withdraw-left s b gone (length o) (length d) h) size wrote
+          writes = writes-0 (plantFault s) _ long _ _ o d (withdraw-left s b gone (length o) (length d) h) size wrote
               some (λ z back. (rw back at ec ∙ listed .0, rw back at ed ∙ listed .1));
         }
 
 -- what a return answers when it passes: its book is that of a making for the old mask and the moves returned
 module _ (s b : List ℕ) (back : ℕ) (o d : List ℕ) (old long : ℕ) {o′ : List ℕ}
-    (h : withdrawButArrows s b back (length o) (length d) ≡ true) (mask-is : old ≡ bookMask b)
-    (size : long ≡ pick (arrowsFine (plantOf s)) (length (madeBook (plantOf s) (bitOr old back))) 0)
-    (wrote : o′ ≡ pick (arrowsFine (plantOf s)) (over (madeBook (plantOf s) (bitOr old back)) o) o) where
+    (h : withdrawAhead s b back (length o) (length d) ≡ true) (mask-is : old ≡ bookMask b)
+    (size : long ≡ pick (eqb (plantFault s) 0) (length (madeBook (plantOf s) (bitOr old back))) 0)
+    (wrote : o′ ≡ pick (eqb (plantFault s) 0) (over (madeBook (plantOf s) (bitOr old back)) o) o) where
   -- the two books are one
   same : madeBook (plantOf s) (bitOr old back) ≡ returnedBook (plantOf s) b back
   unfolding returnedBook
   same = ap (λ (m : ℕ). madeBook (plantOf s) (bitOr m back)) mask-is
 
   -- without a book
-  pub return-3 : {r : Answer} → long ≡ 0 → r ≡ record { number = 3; length = 0; drops = 0 }
-      → ReturnSays s b back o o′ d d r
-  return-3 none e =
+  pub return-none : (n : ℕ) {r : Answer} → long ≡ 0 → r ≡ record { number = n; length = 0; drops = 0 }
+      → n ≡ withdrawFault s b back (length o) (length d) → ReturnSays s b back o o′ d d r
+  return-none n none e en =
       record {
-        writes = writes-3 (arrowsFine (plantOf s)) _ long _ _ o d (withdraw-left s b back (length o) (length d) h)
-            (rw same at size) (rw same at wrote) (rw same at (made-long (plantOf s) (bitOr old back))) none e;
+        writes = writes-none (plantFault s) _ long _ _ o d (withdraw-left s b back (length o) (length d) h)
+            (rw same at size) (rw same at wrote) n (rw same at (made-long (plantOf s) (bitOr old back))) none e en;
       }
 
   -- with one: the states gained are listed
@@ -181,13 +182,13 @@ module _ (s b : List ℕ) (back : ℕ) (o d : List ℕ) (old long : ℕ) {o′ :
         rw read at ed ∙ listed .1 ∙ ap (λ (l : List ℕ). over (bytesOf l) d) (sym turned),
       ) in
       record {
-        writes = writes-0 (arrowsFine p) _ long _ _ o d (withdraw-left s b back (length o) (length d) h)
+        writes = writes-0 (plantFault s) _ long _ _ o d (withdraw-left s b back (length o) (length d) h)
             (rw same at size) (rw same at wrote) some lists;
       }
 
 -- what a list of withdrawals answers when it does not pass
 pub list-refused : (s b m o d : List ℕ) (n : ℕ) {r : Answer} → r ≡ record { number = n; length = 0; drops = 0 }
-    → n ≡ withdrawListFault s b m (length o) (length d) → listButArrows s b m (length o) (length d) ≡ false
+    → n ≡ withdrawListFault s b m (length o) (length d) → listAhead s b m (length o) (length d) ≡ false
     → WithdrawListSays s b m o o d d r
 list-refused s b m o d n e en f =
     record {
@@ -196,7 +197,7 @@ list-refused s b m o d n e en f =
     }
 
 -- what one that passes answers is what one withdrawal of all moves that its masks name does
-pub list-says : {s b m o o′ d d′ : List ℕ} {r : Answer} → listButArrows s b m (length o) (length d) ≡ true
+pub list-says : {s b m o o′ d d′ : List ℕ} {r : Answer} → listAhead s b m (length o) (length d) ≡ true
     → WithdrawSays s b (unionOf (masksOf m)) o o′ d d′ r → WithdrawListSays s b m o o′ d d′ r
 list-says {s} {b} {m} {o} {o′} {d} {d′} {r} h says =
     let number = list-left s b m (length o) (length d) h .0 in

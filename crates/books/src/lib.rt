@@ -36,12 +36,13 @@ pub fn make_book(plant: &[u8], mask: u32, out: &mut [u8]) -> Answer
     ensures make_traced { λ _. ⌜ Demand-3-traced ⌝ }
     ensures make_determined { λ _. ⌜ Determined ⌝ }
 {
-    if !refusals::make_but_arrows(plant, mask, out.len()) {
-        return refused(refusals::make(plant, mask, out.len()));
+    let room = out.len();
+    if !refusals::make_ahead(plant, mask, room) {
+        return refused(refusals::make(plant, mask, room));
     }
     let length = make::book(plant, mask, out);
     if length == 0 {
-        return refused(3);
+        return refused(refusals::make(plant, mask, room));
     }
     Answer {
         number: 0,
@@ -68,7 +69,7 @@ pub fn withdraw_moves(
     ensures withdraw_listed { λ _. ⌜ Listed ⌝ }
     ensures withdraw_determined { λ _. ⌜ Determined ⌝ }
 {
-    if !refusals::withdraw_but_arrows(plant, book, mask, out.len(), drops.len()) {
+    if !refusals::withdraw_ahead(plant, book, mask, out.len(), drops.len()) {
         return refused(refusals::withdraw(plant, book, mask, out.len(), drops.len()));
     }
     withdraw::carry_out(plant, book, mask, out, drops)
@@ -94,7 +95,7 @@ pub fn withdraw_list(
     ensures list_in_turn_traced { λ _. ⌜ In-turn-traced ⌝ }
     ensures list_determined { λ _. ⌜ Determined ⌝ }
 {
-    if !refusals::withdraw_list_but_arrows(plant, book, masks, out.len(), drops.len()) {
+    if !refusals::withdraw_list_ahead(plant, book, masks, out.len(), drops.len()) {
         return refused(refusals::withdraw_list(plant, book, masks, out.len(), drops.len()));
     }
     withdraw::carry_out(plant, book, format::word::union(masks), out, drops)
@@ -119,13 +120,14 @@ pub fn return_moves(
     ensures return_back_traced { λ _. ⌜ Returning-traced ⌝ }
     ensures return_determined { λ _. ⌜ Determined ⌝ }
 {
-    if !refusals::withdraw_but_arrows(plant, book, mask, out.len(), gained.len()) {
-        return refused(refusals::withdraw(plant, book, mask, out.len(), gained.len()));
+    let room = out.len();
+    if !refusals::withdraw_ahead(plant, book, mask, room, gained.len()) {
+        return refused(refusals::withdraw(plant, book, mask, room, gained.len()));
     }
     let old = rows::mask(book);
     let length = make::book(plant, old | mask, out);
     if length == 0 {
-        return refused(3);
+        return refused(refusals::withdraw(plant, book, mask, room, gained.len()));
     }
     let count = writing::dropped(&out[..length as usize], book, gained);
     Answer {

@@ -1,4 +1,4 @@
-// A withdrawal that passes all its checks but that of the plant's arrows.
+// A withdrawal that passes the checks ahead of loading.
 use crate::refused;
 use crate::start;
 use promises::Answer;
@@ -6,11 +6,11 @@ ghost use mathlib.Core.Path.{_≡_};
 ghost use mathlib.Core.Bool.{true};
 ghost use lib.ListN.{length};
 ghost use Rattle.promises.specs.Says.{WithdrawSays};
-ghost use Rattle.refusals.specs.ButArrows.{withdrawButArrows};
+ghost use Rattle.refusals.specs.Ahead.{withdrawAhead};
 
 // Writes the book within the allowed states that the old book keeps, for its moves less those withdrawn, and the states
-// that it drops; returns the book's length and how many they are. Without a book an arrow is out of range or out of
-// order: the withdrawal is refused with 3.
+// that it drops; returns the book's length and how many they are. Without a book a label or an arrow is bad, and the
+// withdrawal is refused.
 pub(crate) fn carry_out(
     plant: &[u8],
     book: &[u8],
@@ -18,7 +18,7 @@ pub(crate) fn carry_out(
     out: &mut [u8],
     drops: &mut [u8],
 ) -> Answer
-    requires { ⌜ withdrawButArrows (now plant) (now book) gone (length (now out)) (length (now drops)) ≡ true ⌝ }
+    requires { ⌜ withdrawAhead (now plant) (now book) gone (length (now out)) (length (now drops)) ≡ true ⌝ }
     ensures { λ r. ⌜ WithdrawSays (now (plant .entry)) (now (book .entry)) gone
         (now (out .entry)) (now (out .exit)) (now (drops .entry)) (now (drops .exit)) r ⌝ }
 {
@@ -26,9 +26,10 @@ pub(crate) fn carry_out(
     let before = start::kept(book, &mut list);
     let kept = start::allowed(plant, &mut list, before);
     let old = rows::mask(book);
+    let room = out.len();
     let length = writing::book(plant, old - (old & gone), &list[..kept], out);
     if length == 0 {
-        return refused(3);
+        return refused(refusals::withdraw(plant, book, gone, room, drops.len()));
     }
     let count = writing::dropped(book, &out[..length as usize], drops);
     Answer {

@@ -19,7 +19,7 @@ ghost use Rattle.statements.specs.Plants.{headOk, labelsOk, arrowsOk};
 ghost use Rattle.statements.specs.Books.{bookLong};
 
 // The header is as document 01 says, with 0 or 1 for its last number, and the slice is as long as the header says.
-pub(crate) fn head_ok(plant: &[u8]) -> bool
+pub fn head_ok(plant: &[u8]) -> bool
     ensures { λ r. ⌜ r ≡ headOk (now (plant .entry)) ⌝ }
 {
     if plant.len() < 16 {

@@ -1,3 +1,3 @@
 -- Laws of what calls return.
 pub mod Refusals
-pub mod ButArrows
+pub mod Ahead

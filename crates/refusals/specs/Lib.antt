@@ -1,2 +1,2 @@
--- The refusals are those of crate statements, specs/Calls.antt; here are their tests without that of the arrows.
-pub mod ButArrows
+-- The refusals are those of crate statements, specs/Calls.antt; here are those of their tests that are made ahead of loading.
+pub mod Ahead

@@ -1,6 +1,6 @@
 // The numbers that the calls return: that of the first check that fails, or 0 when the call is accepted.
-use format::plant::before_arrows_ok;
 use format::plant::book_long;
+use format::plant::head_ok;
 use format::plant_fault;
 use format::word::mask_ok;
 use format::word::number;
@@ -11,7 +11,7 @@ ghost use Rattle.statements.specs.Plants.{firstOf, plantOf};
 ghost use Rattle.statements.specs.Calls.{maskFault, wholeMasks, bookRoom, dropRoom, roomFault, makeFault, alike};
 ghost use Rattle.statements.specs.Calls.{lentFault, withdrawFault, withdrawListFault, numberFault, consultFault};
 ghost use Rattle.statements.specs.Calls.{movesFault};
-ghost use Rattle.refusals.specs.ButArrows.{makeButArrows, withdrawButArrows, listButArrows};
+ghost use Rattle.refusals.specs.Ahead.{makeAhead, withdrawAhead, listAhead};
 
 // A book buffer is long enough for a plant's book.
 fn book_room(plant: &[u8], room: usize) -> bool
@@ -37,11 +37,11 @@ pub fn make(plant: &[u8], mask: u32, room: usize) -> u8
     0
 }
 
-// Make passes all its checks but that of the plant's arrows.
-pub fn make_but_arrows(plant: &[u8], mask: u32, room: usize) -> bool
-    ensures { λ r. ⌜ r ≡ makeButArrows (now (plant .entry)) mask room ⌝ }
+// Make passes the checks ahead of loading: all but those of the plant's labels and arrows.
+pub fn make_ahead(plant: &[u8], mask: u32, room: usize) -> bool
+    ensures { λ r. ⌜ r ≡ makeAhead (now (plant .entry)) mask room ⌝ }
 {
-    before_arrows_ok(plant) & (mask_ok(number(plant, 1) as u32, mask) & book_room(plant, room))
+    head_ok(plant) & (mask_ok(number(plant, 1) as u32, mask) & book_room(plant, room))
 }
 
 // A book is for as many states, moves and goals as a plant has, and of its sort: as long as its books are.
@@ -101,11 +101,11 @@ pub fn withdraw(plant: &[u8], book: &[u8], gone: u32, room: usize, drops: usize)
     given(plant, gone, room, drops)
 }
 
-// A withdrawal or a return passes all its checks but that of the plant's arrows.
-pub fn withdraw_but_arrows(plant: &[u8], book: &[u8], gone: u32, room: usize, drops: usize) -> bool
-    ensures { λ r. ⌜ r ≡ withdrawButArrows (now (plant .entry)) (now (book .entry)) gone room drops ⌝ }
+// A withdrawal or a return passes the checks ahead of loading.
+pub fn withdraw_ahead(plant: &[u8], book: &[u8], gone: u32, room: usize, drops: usize) -> bool
+    ensures { λ r. ⌜ r ≡ withdrawAhead (now (plant .entry)) (now (book .entry)) gone room drops ⌝ }
 {
-    if !(make_but_arrows(plant, gone, room) & drop_room(plant, drops)) {
+    if !(make_ahead(plant, gone, room) & drop_room(plant, drops)) {
         return false;
     }
     alike(plant, book) & (book_fault(book) == 0)
@@ -134,17 +134,17 @@ pub fn withdraw_list(plant: &[u8], book: &[u8], masks: &[u8], room: usize, drops
     given(plant, union(masks), room, drops)
 }
 
-// A list of withdrawals passes all its checks but that of the plant's arrows.
-pub fn withdraw_list_but_arrows(
+// A list of withdrawals passes the checks ahead of loading.
+pub fn withdraw_list_ahead(
     plant: &[u8],
     book: &[u8],
     masks: &[u8],
     room: usize,
     drops: usize,
 ) -> bool
-    ensures { λ r. ⌜ r ≡ listButArrows (now (plant .entry)) (now (book .entry)) (now (masks .entry)) room drops ⌝ }
+    ensures { λ r. ⌜ r ≡ listAhead (now (plant .entry)) (now (book .entry)) (now (masks .entry)) room drops ⌝ }
 {
-    whole_masks(masks) & withdraw_but_arrows(plant, book, union(masks), room, drops)
+    whole_masks(masks) & withdraw_ahead(plant, book, union(masks), room, drops)
 }
 
 // What a call on a book returns for a state and a goal: 8, or 0.

@@ -15,7 +15,6 @@ use Rattle.statements.specs.Books.{bookLong}
 use Rattle.sets.proofs.Tests.{decided, not-both, same-number, and-true}
 use Rattle.decoding.proofs.Sizes.{long-most}
 use Rattle.decoding.proofs.Faults.{plant-tests}
-use Rattle.format.specs.Checks.{labelsFine}
 use Rattle.format.proofs.Header.{plant-head}
 use Rattle.format.proofs.Unions.{rest-is}
 use Rattle.listing.specs.Text.{listing, refusedText, badMasksText}
@@ -107,15 +106,12 @@ module _ {input : List ℕ} {end : ℕ} (parted : Parted input end) where
   rest-masks : Rest ≡ maskPart input
   rest-masks = rest-is input end ∙ parted .masks
 
-  -- the header or a label is bad, or the masks are
-  pub reply-unfit : ((headOk (take end input) && labelsFine (plantOf (take end input))) && masksOk Rest) ≡ false
-      → replyTo input ≡ badText (take end input)
+  -- the header is bad, or the masks are
+  pub reply-unfit : (headOk (take end input) && masksOk Rest) ≡ false → replyTo input ≡ badText (take end input)
   reply-unfit f =
       rw (parted .plant)
       (bad-either input
-      (λ t z.
-      let tests = plant-tests (plantPart input) z in
-      not-both (and-true (and-true (tests .0) (tests .1)) t) (rw (parted .plant, rest-masks) at f)))
+      (λ t z. not-both (and-true (plant-tests (plantPart input) z .0) t) (rw (parted .plant, rest-masks) at f)))
 
   -- good masks
   pub reply-good : masksOk Rest ≡ true → replyTo input ≡ outcomeText (outcomeOf (take end input) Rest)

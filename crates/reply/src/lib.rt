@@ -1,7 +1,7 @@
 // What `planbook` answers: from the bytes of a plant and its masks to the text that is printed.
 use books::make_book;
-use format::plant::before_arrows_ok;
 use format::plant::book_long;
+use format::plant::head_ok;
 use format::plant_fault;
 use format::word::mask_at;
 use format::word::mask_ok;
@@ -109,7 +109,7 @@ pub fn reply(input: &[u8], out: &mut [u8]) -> u32
     let end = plant_end(input);
     let plant = &input[..end];
     let masks = &input[end..];
-    if !(before_arrows_ok(plant) & masks_ok(masks)) {
+    if !(head_ok(plant) & masks_ok(masks)) {
         return reply_bad(plant, out);
     }
     reply_masks(plant, masks, out)

@@ -5,24 +5,24 @@ use mathlib.Core.Bool.{true}
 use Prim.Native.Nat.{_≤_}
 use native.Mathlib.Omega.{arith}
 use denote.Ref.{now}
+use lib.Dec.{eqb}
 use lib.ListN.{length}
 use lib.Seq.{length-take-le}
 use lib.Bits.{bitOr}
 use borrow.Author.Tests.{not-true, not-false}
-use Rattle.statements.specs.Plants.{plantOf}
+use Rattle.statements.specs.Plants.{plantOf, headOk, plantFault}
 use Rattle.statements.specs.Calls.{bookRoom}
-use Rattle.format.specs.Checks.{arrowsFine}
-use Rattle.refusals.specs.ButArrows.{plantButArrows, withdrawButArrows}
-use Rattle.refusals.proofs.ButArrows.{make-parts, withdraw-passes}
+use Rattle.refusals.specs.Ahead.{withdrawAhead}
+use Rattle.refusals.proofs.Ahead.{make-parts, withdraw-passes}
 use Rattle.books.proofs.Made.{made-fits}
-use Rattle.books.proofs.Answered.{withdraw-refused, return-3, return-done}
+use Rattle.books.proofs.Answered.{withdraw-refused, return-none, return-done}
 use Rattle.promises.proofs.Demands.{of-return}
 use borrow.Author.Needs.{needs}
 use Rattle.books.proofs.return_moves.Statement.{statement}
 use Rattle.books.proofs.return_moves.Tie as tie
 
-withdraw-but-arrows-requires : tie.Need-withdraw-but-arrows-requires
-withdraw-but-arrows-requires c κs = search needs
+withdraw-ahead-requires : tie.Need-withdraw-ahead-requires
+withdraw-ahead-requires c κs = search needs
 
 withdraw-requires : tie.Need-withdraw-requires
 withdraw-requires c κs = search needs
@@ -40,7 +40,7 @@ returns c =
         writes =
             withdraw-refused (now (a .plant)) (now (a .book)) (a .mask) (now (a .out)) (now (a .gained)) _
             (c .refused .ensures) (n .withdraw .ensures)
-            (sym (t .withdraw-but-arrows .ensures) ∙ not-true (t .withdraw-but-arrows .result) (e .if1 .taken));
+            (sym (t .withdraw-ahead .ensures) ∙ not-true (t .withdraw-ahead .result) (e .if1 .taken));
       },
       of-return,
     )
@@ -48,25 +48,28 @@ returns c =
 mask-requires : tie.Need-mask-requires
 mask-requires c κs = search needs
 
--- past the test the call passes all checks but that of the arrows
+-- past the test the call passes the checks ahead of loading
 passes : (c : tie.Else1)
     → let a = c .before .before .before .before .before .before .args in
-    withdrawButArrows (now (a .plant)) (now (a .book)) (a .mask) (length (now (a .out))) (length (now (a .gained)))
+    withdrawAhead (now (a .plant)) (now (a .book)) (a .mask) (length (now (a .out))) (length (now (a .gained)))
     ≡ true
 passes c =
     let t = c .before in
-    sym (t .withdraw-but-arrows .ensures) ∙ not-false (t .withdraw-but-arrows .result) (c .if1 .left)
+    sym (t .withdraw-ahead .ensures) ∙ not-false (t .withdraw-ahead .result) (c .if1 .left)
 
--- its plant does, and there is room for the book
+-- its plant has a good header, and there is room for the book
 ready : (c : tie.Else1)
     → let a = c .before .before .before .before .before .before .args in
-    (plantButArrows (now (a .plant)) ≡ true) × (bookRoom (plantOf (now (a .plant))) (length (now (a .out))) ≡ true)
+    (headOk (now (a .plant)) ≡ true) × (bookRoom (plantOf (now (a .plant))) (length (now (a .out))) ≡ true)
 ready c =
     let parts = make-parts _ _ _ (withdraw-passes _ _ _ _ _ (passes c) .make) in
     (parts .0, parts .2)
 
 book-requires : tie.Need-book-requires
 book-requires c κs = ready (c .before .before)
+
+withdraw-requires-2 : tie.Need-withdraw-requires-2
+withdraw-requires-2 c κs = search needs
 
 refused-requires-2 : tie.Need-refused-requires-2
 refused-requires-2 c κs = search needs
@@ -76,12 +79,14 @@ same-length c = search needs
 
 returns-2 : tie.Need-returns-2
 returns-2 c =
-    let z = c .before in
+    let n = c .before in
+    let z = n .before in
     let k = z .before .before .before in
     let m = k .before .before in
     let a = m .before .before .before .before .before .before .before .args in (
-      return-3 (now (a .plant)) (now (a .book)) (a .mask) (now (a .out)) (now (a .gained)) _ _ (passes (m .before))
-          (m .mask .ensures) (k .book .ensures .0) (k .book .ensures .1) (z .if2 .taken) (c .refused2 .ensures),
+      return-none (now (a .plant)) (now (a .book)) (a .mask) (now (a .out)) (now (a .gained)) _ _ (passes (m .before))
+          (m .mask .ensures) (k .book .ensures .0) (k .book .ensures .1) _ (z .if2 .taken) (c .refused2 .ensures)
+          (n .withdraw2 .ensures),
       of-return,
     )
 
@@ -94,7 +99,7 @@ within c =
     let p = plantOf (now (a .plant)) in
     omega (
       arith,
-      made-fits p (bitOr (m .mask .result) (a .mask)) (arrowsFine p) (length (now (a .out))) (ready e .1)
+      made-fits p (bitOr (m .mask .result) (a .mask)) (eqb (plantFault (now (a .plant))) 0) (length (now (a .out))) (ready e .1)
           (c .book .ensures .0),
       c .book .kept .1 .1 .0,
     )
@@ -134,12 +139,13 @@ pub return-moves-spec : {M : Type 1} → statement M
 return-moves-spec =
     tie.close
     (tie.spec
-    withdraw-but-arrows-requires
+    withdraw-ahead-requires
     withdraw-requires
     refused-requires
     returns
     mask-requires
     book-requires
+    withdraw-requires-2
     refused-requires-2
     same-length
     returns-2

@@ -1,21 +1,21 @@
--- `books::withdraw_list` meets its contract: a list that passes all its checks but that of the arrows is carried out as
--- one withdrawal of all moves that its masks name, and any other is refused and changes nothing. Assumes nothing.
+-- `books::withdraw_list` meets its contract: a list that passes the checks ahead of loading is carried out as one
+-- withdrawal of all moves that its masks name, and any other is refused and changes nothing. Assumes nothing.
 use mathlib.Core.Path.{_≡_, sym, ap, _∙_}
 use mathlib.Core.Bool.{true}
 use Prim.Native.Nat.{ℕ}
 use denote.Ref.{now}
 use lib.ListN.{length}
 use borrow.Author.Tests.{not-true, not-false}
-use Rattle.refusals.specs.ButArrows.{withdrawButArrows, listButArrows}
-use Rattle.refusals.proofs.ButArrows.{list-left}
+use Rattle.refusals.specs.Ahead.{withdrawAhead, listAhead}
+use Rattle.refusals.proofs.Ahead.{list-left}
 use Rattle.books.proofs.Answered.{list-refused, list-says}
 use Rattle.promises.proofs.Demands.{of-withdraw-list}
 use borrow.Author.Needs.{needs}
 use Rattle.books.proofs.withdraw_list.Statement.{statement}
 use Rattle.books.proofs.withdraw_list.Tie as tie
 
-withdraw-list-but-arrows-requires : tie.Need-withdraw-list-but-arrows-requires
-withdraw-list-but-arrows-requires c κs = search needs
+withdraw-list-ahead-requires : tie.Need-withdraw-list-ahead-requires
+withdraw-list-ahead-requires c κs = search needs
 
 withdraw-list-requires : tie.Need-withdraw-list-requires
 withdraw-list-requires c κs = search needs
@@ -31,21 +31,21 @@ returns c =
     let a = t .before .before .before .before .before .before .args in (
       list-refused (now (a .plant)) (now (a .book)) (now (a .masks)) (now (a .out)) (now (a .drops)) _
           (c .refused .ensures) (n .withdraw-list .ensures)
-          (sym (t .withdraw-list-but-arrows .ensures) ∙ not-true (t .withdraw-list-but-arrows .result) (e .if1 .taken)),
+          (sym (t .withdraw-list-ahead .ensures) ∙ not-true (t .withdraw-list-ahead .result) (e .if1 .taken)),
       of-withdraw-list,
     )
 
 union-requires : tie.Need-union-requires
 union-requires c κs = search needs
 
--- past the test the list passes all checks but that of the arrows
+-- past the test the list passes the checks ahead of loading
 passes : (c : tie.Else1)
     → let a = c .before .before .before .before .before .before .before .args in
-    listButArrows (now (a .plant)) (now (a .book)) (now (a .masks)) (length (now (a .out))) (length (now (a .drops)))
+    listAhead (now (a .plant)) (now (a .book)) (now (a .masks)) (length (now (a .out))) (length (now (a .drops)))
     ≡ true
 passes c =
     let t = c .before in
-    sym (t .withdraw-list-but-arrows .ensures) ∙ not-false (t .withdraw-list-but-arrows .result) (c .if1 .left)
+    sym (t .withdraw-list-ahead .ensures) ∙ not-false (t .withdraw-list-ahead .result) (c .if1 .left)
 
 carry-out-requires : tie.Need-carry-out-requires
 carry-out-requires c κs =
@@ -54,7 +54,7 @@ carry-out-requires c κs =
     let a = e .before .before .before .before .before .before .before .args in
     ap
     (λ (gone : ℕ).
-    withdrawButArrows (now (a .plant)) (now (a .book)) gone (length (now (a .out))) (length (now (a .drops))))
+    withdrawAhead (now (a .plant)) (now (a .book)) gone (length (now (a .out))) (length (now (a .drops))))
     (u .union .ensures)
     ∙ list-left (now (a .plant)) (now (a .book)) (now (a .masks)) _ _ (passes e) .1
 
@@ -74,7 +74,7 @@ pub withdraw-list-spec : {M : Type 1} → statement M
 withdraw-list-spec =
     tie.close
     (tie.spec
-    withdraw-list-but-arrows-requires
+    withdraw-list-ahead-requires
     withdraw-list-requires
     refused-requires
     returns

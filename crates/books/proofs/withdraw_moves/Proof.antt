@@ -1,5 +1,5 @@
--- `books::withdraw_moves` meets its contract: a call that passes all its checks but that of the arrows is carried out,
--- and any other is refused and changes nothing. Assumes nothing.
+-- `books::withdraw_moves` meets its contract: a call that passes the checks ahead of loading is carried out, and any
+-- other is refused and changes nothing. Assumes nothing.
 use mathlib.Core.Path.{sym, _∙_}
 use denote.Ref.{now}
 use borrow.Author.Tests.{not-true, not-false}
@@ -9,8 +9,8 @@ use borrow.Author.Needs.{needs}
 use Rattle.books.proofs.withdraw_moves.Statement.{statement}
 use Rattle.books.proofs.withdraw_moves.Tie as tie
 
-withdraw-but-arrows-requires : tie.Need-withdraw-but-arrows-requires
-withdraw-but-arrows-requires c κs = search needs
+withdraw-ahead-requires : tie.Need-withdraw-ahead-requires
+withdraw-ahead-requires c κs = search needs
 
 withdraw-requires : tie.Need-withdraw-requires
 withdraw-requires c κs = search needs
@@ -28,7 +28,7 @@ returns c =
         writes =
             withdraw-refused (now (a .plant)) (now (a .book)) (a .mask) (now (a .out)) (now (a .drops)) _
             (c .refused .ensures) (n .withdraw .ensures)
-            (sym (t .withdraw-but-arrows .ensures) ∙ not-true (t .withdraw-but-arrows .result) (e .if1 .taken));
+            (sym (t .withdraw-ahead .ensures) ∙ not-true (t .withdraw-ahead .result) (e .if1 .taken));
       },
       of-withdraw,
     )
@@ -37,7 +37,7 @@ carry-out-requires : tie.Need-carry-out-requires
 carry-out-requires c κs =
     let e = c .before .before in
     let t = e .before in
-    sym (t .withdraw-but-arrows .ensures) ∙ not-false (t .withdraw-but-arrows .result) (e .if1 .left)
+    sym (t .withdraw-ahead .ensures) ∙ not-false (t .withdraw-ahead .result) (e .if1 .left)
 
 same-length : tie.Need-same-length
 same-length c = search needs
@@ -52,7 +52,7 @@ pub withdraw-moves-spec : {M : Type 1} → statement M
 withdraw-moves-spec =
     tie.close
     (tie.spec
-    withdraw-but-arrows-requires
+    withdraw-ahead-requires
     withdraw-requires
     refused-requires
     returns

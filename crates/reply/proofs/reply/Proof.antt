@@ -8,9 +8,8 @@ use denote.Ref.{now}
 use lib.ListN.{take, drop, length}
 use lib.Seq.{length-take-le}
 use borrow.Author.Tests.{not-true, not-false}
-use Rattle.statements.specs.Plants.{plantOf, headOk}
+use Rattle.statements.specs.Plants.{headOk}
 use Rattle.sets.proofs.Tests.{and-left, and-right}
-use Rattle.format.specs.Checks.{labelsFine}
 use Rattle.listing.specs.Buffers.{placed, placedLong}
 use Rattle.reply.specs.Reply.{masksOk, replyTo}
 use Rattle.reply.specs.Laws.{FirstDecide, FewBytes, ListsAfresh}
@@ -44,20 +43,20 @@ part-masks-start c = search needs
 part-masks-end : tie.Need-part-masks-end
 part-masks-end c = search needs
 
-before-arrows-ok-requires : tie.Need-before-arrows-ok-requires
-before-arrows-ok-requires c κs = search needs
+head-ok-requires : tie.Need-head-ok-requires
+head-ok-requires c κs = search needs
 
 masks-ok-requires : tie.Need-masks-ok-requires
 masks-ok-requires c κs = search needs
 
--- the tests of the plant's header and labels, and of the masks
+-- the tests of the plant's header, and of the masks
 tested : (c : tie.After-masks-ok)
     → let e = c .before .before .before .before in
     let input = now (e .before .before .before .args .input) in
     let s = take (e .plant-end .result) input in
     let m = take (length input - e .plant-end .result) (drop (e .plant-end .result) input) in
-    ((headOk s && labelsFine (plantOf s)) && masksOk m) ≡ (c .before .before-arrows-ok .result && c .masks-ok .result)
-tested c = ap₂ (λ (t u : Bool). t && u) (sym (c .before .before-arrows-ok .ensures)) (sym (c .masks-ok .ensures))
+    (headOk s && masksOk m) ≡ (c .before .head-ok .result && c .masks-ok .result)
+tested c = ap₂ (λ (t u : Bool). t && u) (sym (c .before .head-ok .ensures)) (sym (c .masks-ok .ensures))
 
 reply-bad-requires : tie.Need-reply-bad-requires
 reply-bad-requires c κs = search needs
@@ -82,11 +81,9 @@ fit : (c : tie.Else1)
 fit c =
     let m = c .before in
     let e = m .before .before .before .before in
-    let s = take (e .plant-end .result) (now (e .before .before .before .args .input)) in
-    let plant = m .before .before-arrows-ok .result in
+    let plant = m .before .head-ok .result in
     let both = not-false (plant && m .masks-ok .result) (c .if1 .left) in (
-      and-left (headOk s) (labelsFine (plantOf s))
-          (sym (m .before .before-arrows-ok .ensures) ∙ and-left plant (m .masks-ok .result) both),
+      sym (m .before .head-ok .ensures) ∙ and-left plant (m .masks-ok .result) both,
       sym (m .masks-ok .ensures) ∙ and-right plant (m .masks-ok .result) both,
     )
 
@@ -111,7 +108,7 @@ reply-spec =
     sub-masks
     part-masks-start
     part-masks-end
-    before-arrows-ok-requires
+    head-ok-requires
     masks-ok-requires
     reply-bad-requires
     same-length

@@ -1,5 +1,5 @@
 -- `books::make::book` meets its contract: it writes the book within the allowed states, struck out of the list of all
--- states, which is the book of a making, or nothing where the arrows are bad. Assumes nothing.
+-- states, which is the book of a making, or nothing where the plant is refused. Assumes nothing.
 use denote.Ref.{now}
 use mathlib.Core.Path.{_≡_, sym, _∙_}
 use Prim.Native.Nat.{_≤_}
@@ -9,7 +9,7 @@ use lib.Seq.{length-take-le}
 use Rattle.statements.specs.Sets.{numbers, filter}
 use Rattle.statements.specs.Plants.{plantOf, allowed}
 use Rattle.sets.proofs.Members.{length-numbers}
-use Rattle.refusals.proofs.ButArrows.{plant-few}
+use Rattle.refusals.proofs.Ahead.{plant-few}
 use Rattle.books.proofs.Made.{struck, made-written}
 use borrow.Author.Needs.{needs}
 use Rattle.books.proofs.make.book.Statement.{statement}
@@ -65,7 +65,7 @@ returns c =
     let l = k .before .before .before .before in
     let s = l .before .before .before .before .before .before .before in
     let a = s .args in
-    made-written (now (a .plant)) (a .mask) _ (now (a .out)) (s .pre .0) (s .pre .1) (started l .1)
+    made-written (now (a .plant)) (a .mask) _ (now (a .out)) (s .pre .1) (started l .1)
     (k .book .ensures .0) (k .book .ensures .1)
 
 pub book-spec : {M : Type 1} → statement M

@@ -1,27 +1,27 @@
 -- `books::withdraw::carry_out` meets its contract: it writes the book within the allowed states that the old book
--- keeps, for the old mask less the moves withdrawn, and lists the states that this book loses; or the arrows are bad,
--- nothing is written, and it answers 3. Assumes nothing.
+-- keeps, for the old mask less the moves withdrawn, and lists the states that this book loses; or the plant is
+-- refused, and nothing is written. Assumes nothing.
 use denote.Ref.{now}
 use mathlib.Core.Path.{_≡_, sym}
 use Prim.Native.Nat.{_≤_}
 use native.Mathlib.Omega.{arith}
+use lib.Dec.{eqb}
 use lib.ListN.{length, take}
 use lib.Seq.{length-take-le}
 use lib.Bits.{and-le-l}
 use Rattle.statements.specs.Sets.{pick, filter, over}
-use Rattle.statements.specs.Plants.{plantOf, allowed}
+use Rattle.statements.specs.Plants.{plantOf, plantFault, allowed}
 use Rattle.statements.specs.Books.{bookStates, bookKept, withdrawnBook}
 use Rattle.decoding.proofs.Sizes.{kept-few}
-use Rattle.format.specs.Checks.{arrowsFine}
 use Rattle.writing.proofs.Solved.{written-fits}
-use Rattle.refusals.proofs.ButArrows.{plant-few, make-parts, WithdrawPasses, withdraw-passes, passes-states}
+use Rattle.refusals.proofs.Ahead.{plant-few, make-parts, WithdrawPasses, withdraw-passes, passes-states}
 use Rattle.books.proofs.Made.{struck, withdrawn-written}
-use Rattle.books.proofs.Answered.{withdraw-3, withdraw-done}
+use Rattle.books.proofs.Answered.{withdraw-none, withdraw-done}
 use borrow.Author.Needs.{needs}
 use Rattle.books.proofs.withdraw.carry_out.Statement.{statement}
 use Rattle.books.proofs.withdraw.carry_out.Tie as tie
 
--- what it is that the call passes all checks but that of the arrows
+-- what it is that the call passes the checks ahead of loading
 ok : (c : tie.Start)
     → let a = c .args in
     WithdrawPasses (now (a .plant)) (now (a .book)) (a .gone) (length (now (a .out))) (length (now (a .drops)))
@@ -82,14 +82,14 @@ slice-aggregate-book c = sym (length-take-le _ _ (started (c .before .before .be
 book-requires : tie.Need-book-requires
 book-requires c κs = search needs
 
--- the book written, where the arrows are good
+-- the book written, where the plant is accepted
 wrote : (c : tie.After-book)
     → let a = c .before .before .before .before .before .before .before .before .before .before .before .before .before
     .before .args in
     let p = plantOf (now (a .plant)) in
     let new = withdrawnBook p (now (a .book)) (a .gone) in
-    (c .book .result ≡ pick (arrowsFine p) (length new) 0)
-    × (c .book .last .1 .1 .1 .0 ≡ pick (arrowsFine p) (over new (now (a .out))) (now (a .out)))
+    (c .book .result ≡ pick (eqb (plantFault (now (a .plant))) 0) (length new) 0)
+    × (c .book .last .1 .1 .1 .0 ≡ pick (eqb (plantFault (now (a .plant))) 0) (over new (now (a .out))) (now (a .out)))
 wrote c =
     let m = c .before .before .before in
     let t = m .before .before in
@@ -97,6 +97,9 @@ wrote c =
     let a = s .args in
     withdrawn-written (now (a .plant)) (now (a .book)) (a .gone) (now (a .out)) (now (a .drops)) _ _ (s .pre)
     (started t .1) (m .mask .ensures) (c .book .ensures .0) (c .book .ensures .1)
+
+withdraw-requires : tie.Need-withdraw-requires
+withdraw-requires c κs = search needs
 
 refused-requires : tie.Need-refused-requires
 refused-requires c κs = search needs
@@ -106,14 +109,15 @@ same-length c = search needs
 
 returns : tie.Need-returns
 returns c =
-    let e = c .before in
+    let n = c .before in
+    let e = n .before in
     let k = e .before .before .before in
     let w = wrote k in
     let s = k .before .before .before .before .before .before .before .before .before .before .before .before .before
     .before in
     let a = s .args in
-    withdraw-3 (now (a .plant)) (now (a .book)) (a .gone) (now (a .out)) (now (a .drops)) _ (s .pre) (w .0) (w .1)
-    (e .if1 .taken) (c .refused .ensures)
+    withdraw-none (now (a .plant)) (now (a .book)) (a .gone) (now (a .out)) (now (a .drops)) _ (s .pre) (w .0) (w .1) _
+    (e .if1 .taken) (c .refused .ensures) (n .withdraw .ensures)
 
 cast-dropped : tie.Need-cast-dropped
 cast-dropped c = search needs
@@ -162,6 +166,7 @@ carry-out-spec =
     array-share-prefix-list
     slice-aggregate-book
     book-requires
+    withdraw-requires
     refused-requires
     same-length
     returns

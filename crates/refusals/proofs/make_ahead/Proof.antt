@@ -1,17 +1,17 @@
--- `refusals::make_but_arrows` meets its contract: it joins the tests of the plant, the mask and the buffer.
+-- `refusals::make_ahead` meets its contract: it joins the tests of the plant, the mask and the buffer.
 -- Assumes nothing.
 use mathlib.Core.Path.{ap, ap₂, _∙_}
 use mathlib.Core.Bool.{Bool, _&&_}
 use Prim.Native.Nat.{ℕ}
 use Rattle.statements.specs.Plants.{plantOf}
 use Rattle.statements.specs.Books.{maskOk}
-use Rattle.refusals.specs.ButArrows.{plantButArrows, makeButArrows}
+use Rattle.refusals.specs.Ahead.{makeAhead}
 use borrow.Author.Needs.{needs}
-use Rattle.refusals.proofs.make_but_arrows.Statement.{statement}
-use Rattle.refusals.proofs.make_but_arrows.Tie as tie
+use Rattle.refusals.proofs.make_ahead.Statement.{statement}
+use Rattle.refusals.proofs.make_ahead.Tie as tie
 
-before-arrows-ok-requires : tie.Need-before-arrows-ok-requires
-before-arrows-ok-requires c κs = search needs
+head-ok-requires : tie.Need-head-ok-requires
+head-ok-requires c κs = search needs
 
 number-requires : tie.Need-number-requires
 number-requires c κs = search needs
@@ -26,20 +26,20 @@ book-room-requires : tie.Need-book-room-requires
 book-room-requires c κs = search needs
 
 returns : tie.Need-returns
-unfolding makeButArrows plantButArrows plantOf
+unfolding makeAhead plantOf
 returns c =
     let m = c .before in
     let p = m .before .before in
-    ap₂ (λ (t u : Bool). t && u) (p .before-arrows-ok .ensures)
+    ap₂ (λ (t u : Bool). t && u) (p .head-ok .ensures)
     (ap₂ (λ (t u : Bool). t && u)
     (m .mask-ok .ensures ∙ ap (λ (u : ℕ). maskOk u (p .before .before .args .mask)) (m .before .number .ensures))
     (c .book-room .ensures))
 
-pub make-but-arrows-spec : {M : Type 1} → statement M
-make-but-arrows-spec =
+pub make-ahead-spec : {M : Type 1} → statement M
+make-ahead-spec =
     tie.close
     (tie.spec
-    before-arrows-ok-requires
+    head-ok-requires
     number-requires
     cast-mask-ok
     mask-ok-requires
