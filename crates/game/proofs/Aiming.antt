@@ -7,7 +7,7 @@ use native.Mathlib.Omega.{arith}
 use native.Mathlib.Numerals.{add-one}
 use lib.Dec.{ltb}
 use lib.ListN.{length, getD, take, set, length-append, length-set}
-use lib.Seq.{take-suc, take-suc-set, take-length, length-take-le}
+use lib.Seq.{take-suc, take-suc-set, take-set-le, take-length, length-take-le}
 use Rattle.statements.specs.Sets.{bit, isIn, filter, consIf}
 use Rattle.sets.proofs.Members.{filter-length, filter-snoc}
 use Rattle.game.specs.Packed.{goalOf, overAt}
@@ -47,7 +47,7 @@ module _ (f : ℕ → Bool) (list old new : List ℕ) (tail k : ℕ) (c : Aimed 
     next : filter f (take (k + 1) list) ≡ filter f (take k list) ++ consIf (f (getD list k 0)) (getD list k 0) []
     next = rw (add-one k, take-suc list k 0 more) (filter-snoc f (take k list) (getD list k 0))
 
-    -- it joins the line, or does not
+    -- it is written behind the line, and joins it or does not
     pub aim-yes : f (getD list k 0) ≡ true → tail < length new
         → Aimed f list old (set new tail (getD list k 0)) (tail + 1) (k + 1)
     aim-yes t room =
@@ -63,14 +63,14 @@ module _ (f : ℕ → Bool) (list old new : List ℕ) (tail k : ℕ) (c : Aimed 
           line = rw (add-one tail, take-suc-set new tail (getD list k 0) room, c .line) (sym both);
         }
 
-    pub aim-no : f (getD list k 0) ≡ false → Aimed f list old new tail (k + 1)
+    pub aim-no : f (getD list k 0) ≡ false → Aimed f list old (set new tail (getD list k 0)) tail (k + 1)
     aim-no t =
         let same : filter f (take (k + 1) list) ≡ filter f (take k list) = (rw t at next) ∙ append-nil _ in
         record {
           within = omega arith;
-          size = c .size;
+          size = length-set new tail (getD list k 0) ∙ c .size;
           number = rw same (c .number);
-          line = rw same (c .line);
+          line = rw same (take-set-le tail new tail (getD list k 0) (omega arith) ∙ c .line);
         }
 
 -- the test of a node at which a reach to goal i begins

@@ -1,16 +1,15 @@
 -- Attractors for any test of going on: an attractor holds its targets, is closed within its set, and the steps to it
 -- count the levels. Assumes nothing.
 use mathlib.Core.Path.{_≡_, refl, sym, ap, _∙_}
-use mathlib.Core.Logic.{_⊎_, inl, inr, ⊎-elim}
+use mathlib.Core.Logic.{_⊎_, ⊎-elim}
 use mathlib.Core.Bool.{Bool, true, false, _&&_, _||_}
 use mathlib.Core.List.{List, [], _∷_}
 use Prim.Native.Nat.{ℕ, zero, suc, _+_, _≤_, _<_}
 use native.Mathlib.Omega.{arith}
 use native.Mathlib.Decide.{decLt}
 use borrow.Author.Tests.{lt-ltb, le-ltb}
-use lib.Dec.{ltb}
 use lib.ListN.{length}
-use Rattle.statements.specs.Sets.{pick, numbers, first, iterate, isIn, filter}
+use Rattle.statements.specs.Sets.{numbers, first, iterate, isIn}
 use Rattle.sets.proofs.Tests.{decided, same-number, not-both, or-left, or-right, or-cases}
 use Rattle.sets.proofs.Members.{Sifted, sifted-filter, sifted-member, sifted-sub, filter-holds, filter-in, isIn-here}
 use Rattle.sets.proofs.Members.{isIn-none}

@@ -8,8 +8,7 @@ use Prim.Native.Nat.{ℕ, _+_, _-_, _≤_, _<_}
 use native.Mathlib.Omega.{arith}
 use borrow.Author.Tests.{lt-ltb, le-ltb}
 use lib.Dec.{ltb}
-use lib.ListN.{length, getD, take, drop, replicate, length-drop, length-replicate, getD-replicate}
-use lib.ListN.{drop-of-length-le}
+use lib.ListN.{length, getD, take, replicate, length-replicate, getD-replicate, drop-of-length-le}
 use lib.Seq.{length-take-le, take-all, take-at, getD-take, ext-getD}
 use Rattle.statements.specs.Sets.{numbers, isIn, over}
 use Rattle.statements.specs.Demands.{Rising}
@@ -25,7 +24,6 @@ use Rattle.arrays.proofs.Guards.{fitting-yes}
 use Rattle.sort.specs.Steps.{Holds, countOf}
 use Rattle.game.specs.Walked.{nodes, waitOf, walkedWaits}
 use Rattle.game.specs.Steps.{Queue, Walking, reached}
-use Rattle.game.specs.Packed.{part, groupsIn, startsIn}
 use Rattle.game.proofs.Counts.{lt-or-le, count-same, in-take}
 use Rattle.game.proofs.Starts.{walk-start}
 use Rattle.game.proofs.Aiming.{listed}
@@ -123,19 +121,6 @@ module _ (n : ℕ) (q : List ℕ) (tail : ℕ) (long : tail ≡ length (take tai
       ap (λ (l : List ℕ). getD l t 0) new
       ∙ (over-first (take groups sizes) old t (omega arith) ∙ (getD-take groups sizes t 0 h ∙ holds t h)))
       (rw en line-start)
-
--- the parts of a game are as long as they should be
-pub starts-nodes : (graph : List ℕ) (n : ℕ) → n ≤ 1024 → 18433 ≤ length graph → nodes (startsIn graph n) ≡ n
-unfolding nodes startsIn part
-starts-nodes graph n h l =
-    omega (
-      arith,
-      length-take-le (16384 + (n + 1) - 16384) (drop 16384 graph) (omega (arith, length-drop 16384 graph)),
-    )
-
-pub groups-length : (graph : List ℕ) (n : ℕ) → n ≤ length graph → length (groupsIn graph n) ≡ n
-unfolding groupsIn
-groups-length graph n h = length-take-le n graph h
 
 -- a front of a list that is as long as it should be
 pub front-room : (n : ℕ) (xs : List ℕ) → n ≡ length (take n xs) → n ≤ length xs

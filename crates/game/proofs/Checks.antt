@@ -1,21 +1,17 @@
 -- The checks of the arrays, turn by turn, and what they say. Assumes nothing.
 use mathlib.Core.Path.{_≡_, refl, sym, ap, _∙_}
-use mathlib.Core.Bool.{Bool, true, false, _&&_, _||_, not}
+use mathlib.Core.Bool.{Bool, true, false, _&&_}
 use mathlib.Core.List.{List}
-use mathlib.Core.Logic.{⊎-elim, _⊎_, inl, inr}
 use Prim.Native.Nat.{ℕ, _+_, _*_, _<_, _≤_}
 use native.Mathlib.Omega.{arith}
-use borrow.Author.Count.{below-more}
-use borrow.Author.Tests.{lt-ltb, le-ltb, le-leb, lt-leb, leb-true, ltb-true, eqb-true}
+use borrow.Author.Tests.{lt-ltb, le-ltb, le-leb, lt-leb, leb-true, ltb-true}
 use lib.Dec.{eqb, ltb, leb}
 use lib.ListN.{length, getD}
-use Rattle.statements.specs.Sets.{pick}
-use Rattle.sets.proofs.Tests.{and-iff, or-cases}
+use Rattle.sets.proofs.Tests.{and-iff}
 use Rattle.sets.proofs.Numbers.{every-at, every-all, every-none}
 use Rattle.arrays.proofs.Guards.{small-product}
 use Rattle.game.specs.Walked.{nodes, ordered, allBelow}
-use Rattle.game.specs.Steps.{Index}
-use Rattle.game.specs.Packed.{roomyFor}
+use Rattle.game.specs.Packed.{placesIn, roomyFor}
 
 -- a limit for each number
 module _ (xs : List ℕ) (limit : ℕ) where
@@ -58,33 +54,37 @@ module _ (starts : List ℕ) (positions : ℕ) where
       rw rises
 
 -- the figures of a packed game: those with a largest number
-abbrev pub smallFigures : ℕ → ℕ → ℕ → ℕ → Bool
-smallFigures nodes groups positions goals =
-    leb nodes 1024 && (leb groups 8192 && (leb positions 8192 && (leb 1 goals && leb goals 8)))
+module _ (nodes groups positions goals graph places : ℕ) where
+  abbrev pub smallFigures : Bool
+  smallFigures =
+      leb nodes 1024 && (leb 2049 graph && (leb places 8192 && (leb groups places && (leb positions places
+      && (leb 1 goals && leb goals 8)))))
 
--- their product fits a machine word
-pub figures-product : (nodes groups positions goals : ℕ) → smallFigures nodes groups positions goals ≡ true
-    → goals * nodes ≤ 65536 * 65536
-figures-product nodes groups positions goals e =
-    let tests = simp and-iff at e in
-    small-product goals nodes (omega (arith, leb-true goals 8 (tests .1 .1 .1 .1)))
-    (omega (arith, leb-true nodes 1024 (tests .0)))
+  -- their product fits a machine word
+  pub figures-product : smallFigures ≡ true → goals * nodes ≤ 65536 * 65536
+  figures-product e =
+      let tests = simp and-iff at e in
+      small-product goals nodes (omega (arith, leb-true goals 8 (tests .1 .1 .1 .1 .1 .1)))
+      (omega (arith, leb-true nodes 1024 (tests .0)))
 
--- and they are the first of what is tested
-pub figures-first : (nodes groups positions goals graph waits : ℕ) {b : Bool}
-    → smallFigures nodes groups positions goals ≡ b
-    → (b && (leb 18433 graph && leb (goals * nodes) waits)) ≡ roomyFor nodes groups positions goals graph waits
-unfolding roomyFor
-figures-first nodes groups positions goals graph waits e =
-    sym (ap (λ (t : Bool). t && (leb 18433 graph && leb (goals * nodes) waits)) e)
-    ∙ five (leb nodes 1024) (leb groups 8192) (leb positions 8192) (leb 1 goals) (leb goals 8) _
-  where
-    five : (a b c d e r : Bool) → ((a && (b && (c && (d && e)))) && r) ≡ (a && (b && (c && (d && (e && r)))))
-    five false b c d e r = refl
-    five true false c d e r = refl
-    five true true false d e r = refl
-    five true true true false e r = refl
-    five true true true true e r = refl
+  -- and they are the first of what is tested
+  pub figures-first : (waits : ℕ) {b : Bool} → places ≡ placesIn graph → smallFigures ≡ b
+      → (b && leb (goals * nodes) waits) ≡ roomyFor nodes groups positions goals graph waits
+  unfolding roomyFor
+  figures-first waits k e =
+      sym (ap (λ (t : Bool). t && leb (goals * nodes) waits) e)
+      ∙ rw k (seven (leb nodes 1024) (leb 2049 graph) (leb (placesIn graph) 8192) (leb groups (placesIn graph))
+      (leb positions (placesIn graph)) (leb 1 goals) (leb goals 8) _)
+    where
+      seven : (a b c d e f g r : Bool) → ((a && (b && (c && (d && (e && (f && g)))))) && r)
+          ≡ (a && (b && (c && (d && (e && (f && (g && r)))))))
+      seven false b c d e f g r = refl
+      seven true false c d e f g r = refl
+      seven true true false d e f g r = refl
+      seven true true true false e f g r = refl
+      seven true true true true false f g r = refl
+      seven true true true true true false g r = refl
+      seven true true true true true true g r = refl
 
 -- four tests
 pub four-tests : {a b c d a' b' c' d' : Bool} → a ≡ a' → b ≡ b' → c ≡ c' → d ≡ d'

@@ -16,6 +16,7 @@ pub mod Deaths
 pub mod Strikes
 pub mod Aiming
 pub mod Opening
+pub mod Parts
 pub mod Begun
 pub mod Attractors
 pub mod Rounds

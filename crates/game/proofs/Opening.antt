@@ -1,21 +1,18 @@
--- The loops before the first round, turn by turn: each group has an end, and the nodes with a group are marked; and
--- what the parts of a packed game are. Assumes nothing.
-use mathlib.Core.Path.{_≡_, refl, ap, sym, _∙_}
-use mathlib.Core.Logic.{⊎-elim}
-use mathlib.Core.Bool.{Bool, true, false}
+-- The loops before the first round, turn by turn: each group has an end, and the nodes with a group are marked.
+-- Assumes nothing.
+use mathlib.Core.Path.{_≡_, ap, sym, _∙_}
+use mathlib.Core.Bool.{true, false}
 use mathlib.Core.List.{List}
-use Prim.Native.Nat.{ℕ, _+_, _-_, _<_, _≤_}
+use Prim.Native.Nat.{ℕ, _+_, _<_, _≤_}
 use native.Mathlib.Omega.{arith}
 use borrow.Author.Count.{below-more}
 use borrow.Author.Tests.{lt-ltb, le-ltb}
 use lib.Dec.{ltb}
-use lib.ListN.{length, getD, set, take, drop, length-set, length-drop}
-use lib.Seq.{getD-set-same, getD-set-other, length-take-le}
+use lib.ListN.{length, getD, set}
+use lib.Seq.{getD-set-same, getD-set-other}
 use Rattle.statements.specs.Sets.{every}
-use Rattle.sets.proofs.Tests.{same-number}
 use Rattle.sets.proofs.Numbers.{every-all, every-none}
 use Rattle.sort.specs.Steps.{Holds}
-use Rattle.game.specs.Packed.{part, revIn, startsIn, labelsIn}
 
 -- a size of 0, or none
 module _ (sizes : List ℕ) where
@@ -61,19 +58,3 @@ module _ (live member : List ℕ) (n x : ℕ) (o : Opening live member n x) (low
             ∙ sym (lt-ltb 0 (getD live x 0) (omega (arith, d))));
         later = λ y l k. getD-set-other member x y 0 0 (λ q. omega arith) ∙ o .later y (omega arith) k;
       }
-
--- a part's length
-pub part-length : (a n : ℕ) (xs : List ℕ) → a + n ≤ length xs → length (part a n xs) ≡ n
-unfolding part
-part-length a n xs h =
-    length-take-le (a + n - a) (drop a xs) (omega (arith, length-drop a xs)) ∙ omega arith
-
-pub rev-length : (graph : List ℕ) (positions : ℕ) → positions ≤ 8192 → 18433 ≤ length graph
-    → length (revIn graph positions) ≡ positions
-unfolding revIn
-rev-length graph positions few long = part-length 8192 positions graph (omega arith)
-
-pub labels-length : (graph : List ℕ) (nodes : ℕ) → nodes ≤ 1024 → 18433 ≤ length graph
-    → length (labelsIn graph nodes) ≡ nodes
-unfolding labelsIn
-labels-length graph nodes few long = part-length 17409 nodes graph (omega arith)

@@ -9,21 +9,23 @@ use borrow.Author.Tests.{lt-ltb, ltb-true, leb-true, eq-eqb, eqb-true}
 use lib.Dec.{eqb, ltb, leb}
 use lib.ListN.{length, getD, take}
 use lib.Seq.{length-take-le, getD-take, take-length}
-use Rattle.statements.specs.Sets.{pick, every, isIn}
+use Rattle.statements.specs.Sets.{numbers, every, isIn, over}
 use Rattle.sets.proofs.Tests.{decided, same-number, not-both, and-iff, same-test}
+use Rattle.sets.proofs.Members.{Sifted}
 use Rattle.sets.proofs.Numbers.{every-at, every-all}
 use Rattle.sort.specs.Sorted.{placesOf}
 use Rattle.sort.specs.Steps.{Holds, countOf}
 use Rattle.arrays.specs.Lists.{rising}
+use Rattle.arrays.proofs.Ordered.{rising-sifted}
 use Rattle.game.specs.Walked.{nodes, ordered, allBelow}
 use Rattle.game.specs.Steps.{Index}
-use Rattle.game.specs.Packed.{groupsIn, revIn, startsIn, roomyFor, hypergraph, playable}
-use Rattle.game.specs.Playing.{Ready}
+use Rattle.game.specs.Packed.{placesIn, groupsIn, revIn, startsIn, roomyFor, hypergraph, soundIn, playable}
+use Rattle.game.specs.Packed.{heldIn, waitsIn}
+use Rattle.game.specs.Playing.{Fits, Ready, Tested, Worked}
 use Rattle.game.proofs.Counts.{count-none, count-zero, in-take}
 use Rattle.game.proofs.Checks.{below-at}
 use Rattle.game.proofs.Aiming.{listed}
-use Rattle.game.proofs.Opening.{part-length, rev-length}
-use Rattle.game.proofs.Begun.{starts-nodes, groups-length}
+use Rattle.game.proofs.Parts.{groups-length, rev-length, starts-length, starts-nodes}
 
 -- a number is in a list exactly where it is counted
 count-in : (rev : List ℕ) (g : ℕ) → ltb 0 (countOf rev (length rev) g) ≡ isIn g rev
@@ -73,12 +75,9 @@ covered-full rev sizes groups room holds =
 
 -- what the first test says
 pub record Roomy (nodes groups positions goals graph waits : ℕ) : Type 0 where
-  pub few-nodes : nodes ≤ 1024
-  pub few-groups : groups ≤ 8192
-  pub few-positions : positions ≤ 8192
+  pub fits : Fits graph nodes groups positions
   pub some-goal : 0 < goals
   pub few-goals : goals ≤ 8
-  pub long : 18433 ≤ graph
   pub room : goals * nodes ≤ waits
 
 pub roomy-says : (nodes groups positions goals graph waits : ℕ)
@@ -87,13 +86,16 @@ unfolding roomyFor
 roomy-says nodes groups positions goals graph waits e =
     let tests = simp and-iff at e in
     record {
-      few-nodes = leb-true nodes 1024 (tests .0);
-      few-groups = leb-true groups 8192 (tests .1 .0);
-      few-positions = leb-true positions 8192 (tests .1 .1 .0);
-      some-goal = leb-true 1 goals (tests .1 .1 .1 .0);
-      few-goals = leb-true goals 8 (tests .1 .1 .1 .1 .0);
-      long = leb-true 18433 graph (tests .1 .1 .1 .1 .1 .0);
-      room = leb-true (goals * nodes) waits (tests .1 .1 .1 .1 .1 .1);
+      fits = record {
+        few-nodes = leb-true nodes 1024 (tests .0);
+        long = leb-true 2049 graph (tests .1 .0);
+        places-few = leb-true (placesIn graph) 8192 (tests .1 .1 .0);
+        few-groups = leb-true groups (placesIn graph) (tests .1 .1 .1 .0);
+        few-positions = leb-true positions (placesIn graph) (tests .1 .1 .1 .1 .0);
+      };
+      some-goal = leb-true 1 goals (tests .1 .1 .1 .1 .1 .0);
+      few-goals = leb-true goals 8 (tests .1 .1 .1 .1 .1 .1 .0);
+      room = leb-true (goals * nodes) waits (tests .1 .1 .1 .1 .1 .1 .1);
     }
 
 -- five tests in another order
@@ -106,24 +108,16 @@ regroup true true true false true = refl
 regroup true true true true false = refl
 regroup true true true true true = refl
 
--- there is a start
-starts-some : (graph : List ℕ) (n : ℕ) → n ≤ 1024 → 18433 ≤ length graph → 0 < length (startsIn graph n)
-unfolding startsIn
-starts-some graph n few long = omega (arith, part-length 16384 (n + 1) graph (omega arith))
-
 module _ (graph : List ℕ) (n groups positions goals : ℕ) (start : List ℕ) (waits : ℕ) where
-  -- the starts, the numbers and the list
-  abbrev pub soundIn : Bool
-  soundIn =
-      ordered (startsIn graph n) positions
-      && (allBelow (revIn graph positions) groups && (allBelow (groupsIn graph groups) n && rising 0 n start))
-
   -- each group has an end
   abbrev pub fullIn : Bool
   fullIn = every groups 0 (λ g. isIn g (revIn graph positions))
 
+  abbrev sound : Bool
+  sound = soundIn graph n groups positions start
+
   playable-is : playable graph n groups positions goals start waits
-      ≡ (roomyFor n groups positions goals (length graph) waits && (soundIn && fullIn))
+      ≡ (roomyFor n groups positions goals (length graph) waits && (sound && fullIn))
   unfolding playable hypergraph
   playable-is =
       ap (λ (b : Bool). roomyFor n groups positions goals (length graph) waits && b)
@@ -135,66 +129,69 @@ module _ (graph : List ℕ) (n groups positions goals : ℕ) (start : List ℕ) 
       → playable graph n groups positions goals start waits ≡ false
   not-roomy e = playable-is ∙ rw e
 
-  module _ (roomy : roomyFor n groups positions goals (length graph) waits ≡ true) where
-    pub not-sound : soundIn ≡ false → playable graph n groups positions goals start waits ≡ false
-    not-sound e = playable-is ∙ rw (roomy, e)
+  pub not-sound : roomyFor n groups positions goals (length graph) waits ≡ true → sound ≡ false
+      → playable graph n groups positions goals start waits ≡ false
+  not-sound r e = playable-is ∙ rw (r, e)
 
-    module _ (sound : soundIn ≡ true) where
-      pub not-full : fullIn ≡ false → playable graph n groups positions goals start waits ≡ false
-      not-full e = playable-is ∙ rw (roomy, sound, e)
+  module _ (tested : Tested graph n groups positions goals start waits) where
+    pub not-full : fullIn ≡ false → playable graph n groups positions goals start waits ≡ false
+    not-full e = playable-is ∙ rw (tested .roomy, tested .sound, e)
 
-      -- all hold
-      pub all-hold : fullIn ≡ true → playable graph n groups positions goals start waits ≡ true
-      all-hold e = playable-is ∙ rw (roomy, sound, e)
+    -- all hold
+    pub all-hold : fullIn ≡ true → playable graph n groups positions goals start waits ≡ true
+    all-hold e = playable-is ∙ rw (tested .roomy, tested .sound, e)
 
-      -- the numbers are in range, and the start rises
-      pub sound-below : allBelow (revIn graph positions) groups ≡ true
-      sound-below = (simp and-iff at sound) .1 .0
+    -- the figures fit
+    pub tested-roomy : Roomy n groups positions goals (length graph) waits
+    tested-roomy = roomy-says n groups positions goals (length graph) waits (tested .roomy)
 
-      pub sound-rising : rising 0 n start ≡ true
-      sound-rising = (simp and-iff at sound) .1 .1 .1
+    -- the numbers are in range, and the start rises
+    pub tested-below : allBelow (revIn graph positions) groups ≡ true
+    tested-below = (simp and-iff at (tested .sound)) .1 .0
 
-      index-in : Index (revIn graph positions) (startsIn graph n) (groupsIn graph groups)
-      unfolding ordered nodes
-      index-in =
-          let tests = simp and-iff at sound in
-          let order = tests .0 in
-          let fits = roomy-says n groups positions goals (length graph) waits roomy in
-          let starts = startsIn graph n in
-          let en = starts-nodes graph n (fits .few-nodes) (fits .long) in
-          let er = rev-length graph positions (fits .few-positions) (fits .long) in
-          let eg = groups-length graph groups (omega (arith, fits .few-groups, fits .long)) in
-          record {
-            some = starts-some graph n (fits .few-nodes) (fits .long);
-            small = omega (arith, fits .few-nodes);
-            zero-is = eqb-true (getD starts 0 0) 0 (order .1 .0);
-            up = λ t h.
-                leb-true (getD starts t 0) (getD starts (t + 1) 0)
-                (every-at (nodes starts) 0 (λ k. leb (getD starts k 0) (getD starts (k + 1) 0)) (order .0) t
-                (omega arith) (omega arith));
-            last-is = eqb-true (getD starts (nodes starts) 0) positions (order .1 .1) ∙ sym er;
-            groups = λ j h. omega (arith, below-at (revIn graph positions) groups (tests .1 .0) j h);
-            of-node = λ g h. omega (arith, below-at (groupsIn graph groups) n (tests .1 .1 .0) g h);
-          }
+    pub tested-sifted : Sifted (numbers n 0) start
+    tested-sifted = rising-sifted _ _ ((simp and-iff at (tested .sound)) .1 .1 .1)
 
-      pub ready-in : fullIn ≡ true → Ready graph n groups positions goals
-      ready-in full =
-          let fits = roomy-says n groups positions goals (length graph) waits roomy in
-          record {
-            few-nodes = fits .few-nodes;
-            few-groups = fits .few-groups;
-            few-positions = fits .few-positions;
-            some-goal = fits .some-goal;
-            few-goals = fits .few-goals;
-            long = fits .long;
-            index = index-in;
-            full = λ g h. every-at groups 0 (λ k. isIn k (revIn graph positions)) full g (omega arith) (omega arith);
-          }
+    index-in : Index (revIn graph positions) (startsIn graph n) (groupsIn graph groups)
+    unfolding ordered nodes
+    index-in =
+        let tests = simp and-iff at (tested .sound) in
+        let order = tests .0 in
+        let fits = tested-roomy .fits in
+        let starts = startsIn graph n in
+        let en = starts-nodes graph fits in
+        let eg = groups-length graph fits in
+        record {
+          some = omega (arith, starts-length graph fits);
+          small = omega (arith, fits .few-nodes);
+          zero-is = eqb-true (getD starts 0 0) 0 (order .1 .0);
+          up = λ t h.
+              leb-true (getD starts t 0) (getD starts (t + 1) 0)
+              (every-at (nodes starts) 0 (λ k. leb (getD starts k 0) (getD starts (k + 1) 0)) (order .0) t
+              (omega arith) (omega arith));
+          last-is = eqb-true (getD starts (nodes starts) 0) positions (order .1 .1) ∙ sym (rev-length graph fits);
+          groups = λ j h. omega (arith, below-at (revIn graph positions) groups (tests .1 .0) j h);
+          of-node = λ g h. omega (arith, below-at (groupsIn graph groups) n (tests .1 .1 .0) g h);
+        }
 
--- what is answered where the tests hold and where not
-module _ (b : Bool) (count : ℕ) (new old : List ℕ) where
-  pub unplayable : b ≡ false → (0 ≡ pick b count 0) × (old ≡ pick b new old)
-  unplayable e = (rw e, rw e)
+    pub ready-in : fullIn ≡ true → Ready graph n groups positions goals
+    ready-in full =
+        record {
+          fits = tested-roomy .fits;
+          some-goal = tested-roomy .some-goal;
+          few-goals = tested-roomy .few-goals;
+          index = index-in;
+          full = λ g h. every-at groups 0 (λ k. isIn k (revIn graph positions)) full g (omega arith) (omega arith);
+        }
 
-  pub played : b ≡ true → (r : ℕ) (w : List ℕ) → (r ≡ count) × (w ≡ new) → (r ≡ pick b count 0) × (w ≡ pick b new old)
-  played e r w is = (rw e (is .0), rw e (is .1))
+-- what is answered where a test fails, and where all hold
+module _ (graph : List ℕ) (n groups positions goals : ℕ) (start old : List ℕ) where
+  pub unplayable : playable graph n groups positions goals start (length old) ≡ false
+      → Worked graph n groups positions goals start old 0 old
+  unplayable e = record { kept = rw e; waits = rw e }
+
+  pub played : playable graph n groups positions goals start (length old) ≡ true → (r : ℕ) (w : List ℕ)
+      → (r ≡ length (heldIn graph n groups positions goals start))
+      × (w ≡ over (waitsIn graph n groups positions goals (heldIn graph n groups positions goals start)) old)
+      → Worked graph n groups positions goals start old r w
+  played e r w is = record { kept = rw e (is .0); waits = rw e (is .1) }

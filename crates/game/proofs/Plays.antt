@@ -2,9 +2,9 @@
 use mathlib.Core.Path.{_≡_, refl, sym, ap, _∙_, subst}
 use mathlib.Core.Bool.{Bool, not}
 use mathlib.Core.List.{List}
-use Prim.Native.Nat.{ℕ, _+_, _*_, _≤_}
+use Prim.Native.Nat.{ℕ, _+_, _-_, _*_, _≤_, _<_}
 use native.Mathlib.Omega.{arith}
-use lib.ListN.{length, take, drop, replicate, length-replicate, getD-replicate}
+use lib.ListN.{length, getD, take, replicate, length-replicate}
 use lib.Seq.{length-take-le, getD-drop}
 use Rattle.statements.specs.Sets.{numbers, filter, over}
 use Rattle.sets.proofs.Members.{Sifted, filter-length}
@@ -16,8 +16,8 @@ use Rattle.game.specs.Game.{Can, attractedAll}
 use Rattle.game.specs.Packed.{groupsIn, revIn, startsIn, labelsIn, goalOf, overAt, canIn, heldIn, waitsIn}
 use Rattle.game.specs.Marks.{Marked, without}
 use Rattle.game.specs.Cuts.{waitsAll}
-use Rattle.game.specs.Playing.{Ready, RoundIn, Standing, Rest}
-use Rattle.game.proofs.Begun.{starts-nodes, groups-length}
+use Rattle.game.specs.Playing.{Ready, Fresh, RoundIn, Standing, Rest, lastEight}
+use Rattle.game.proofs.Parts.{groups-length, starts-nodes}
 use Rattle.game.proofs.Rounds.{cut-round}
 use Rattle.game.proofs.Playing.{round-begin, round-next, round-end, columns-over}
 use Rattle.game.proofs.Standing.{member-can, without-failing}
@@ -50,6 +50,13 @@ module _ (xs old new : List ℕ) (h : length xs ≤ length old) (e : new ≡ ove
   pub copied-front : take (length xs) new ≡ xs
   copied-front = ap (take (length xs)) copied-is ∙ over-back xs old (length xs) refl
 
+-- no number of targets is noted in an array of marks
+last-new : (groups : ℕ) (scratch : List ℕ) → Fresh (groups + 8) 65535 scratch → (i : ℕ) → i < 8
+    → getD (lastEight scratch) i 0 ≡ 65535
+unfolding lastEight
+last-new groups scratch f i h =
+    getD-drop (length scratch - 8) scratch i 0 ∙ f .all (length scratch - 8 + i) (omega (arith, f .long))
+
 -- the same from a place on after two changes
 pub rest-more : {place : ℕ} {old mid new : List ℕ} → Rest place old mid → Rest place mid new → Rest place old new
 rest-more a b = record { long = b .long ∙ a .long; stays = b .stays ∙ a .stays }
@@ -73,11 +80,13 @@ module _ (graph : List ℕ) (nodes groups positions goals : ℕ) where
   pub record Outset (start waits₀ member live dead waits scratch queue list : List ℕ) (kept : ℕ) : Type 0 where
     pub room : kept ≤ length list
     pub marked : MarkedIn (take kept list) member live dead
-    pub round : RoundIn graph nodes groups positions goals start (take kept list) 0 (drop 8192 scratch) waits
+    pub round : RoundIn graph nodes groups positions goals start (take kept list) 0 (lastEight scratch) waits
     pub rest : Rest (goals * nodes) waits₀ waits
-    pub scratch-long : length scratch ≡ 8200
+    pub scratch-long : groups + 8 ≤ length scratch
     pub queue-long : length queue ≡ 1024
     pub list-long : length list ≡ 1024
+    pub member-long : length member ≡ 1024
+    pub live-long : length live ≡ 1024
 
   module _ (ready : Ready graph nodes groups positions goals) where
     -- the marks of a set are those of the game
@@ -85,8 +94,8 @@ module _ (graph : List ℕ) (nodes groups positions goals : ℕ) where
         → (nodes ≤ length member) × Standing graph nodes groups positions set member
     unfolding canIn
     standing set member live dead m =
-        let few = starts-nodes graph nodes (ready .few-nodes) (ready .long) in
-        let gl = groups-length graph groups (omega (arith, ready .few-groups, ready .long)) in (
+        let few = starts-nodes graph (ready .fits) in
+        let gl = groups-length graph (ready .fits) in (
           omega (arith, few, m .member-long),
           λ x h.
               member-can (groupsIn graph groups) (startsIn graph nodes) (revIn graph positions)
@@ -94,11 +103,12 @@ module _ (graph : List ℕ) (nodes groups positions goals : ℕ) where
         )
 
     -- the first round
-    pub first-round : (start waits member live dead list old : List ℕ) → Sifted (numbers nodes 0) start
-        → MarkedIn start member live dead → length old ≡ 1024 → list ≡ over (fitting start old) old
-        → Outset start waits member live dead waits (replicate 8200 65535) (replicate 1024 0) list (length start)
-    first-round start waits member live dead list old s m lo e =
-        let h : length start ≤ length old = omega (arith, sifted-few nodes start s, ready .few-nodes) in
+    pub first-round : (start waits member live dead scratch list old : List ℕ) → Sifted (numbers nodes 0) start
+        → MarkedIn start member live dead → length member ≡ 1024 → length live ≡ 1024
+        → Fresh (groups + 8) 65535 scratch → length old ≡ 1024 → list ≡ over (fitting start old) old
+        → Outset start waits member live dead waits scratch (replicate 1024 0) list (length start)
+    first-round start waits member live dead scratch list old s m lm ll f lo e =
+        let h : length start ≤ length old = omega (arith, sifted-few nodes start s, ready .fits .few-nodes) in
         let long = copied-length start old list h e in
         let front = copied-front start old list h e in
         record {
@@ -107,16 +117,16 @@ module _ (graph : List ℕ) (nodes groups positions goals : ℕ) where
           round =
               subst
               (λ (set : List ℕ).
-              RoundIn graph nodes groups positions goals start set 0 (drop 8192 (replicate 8200 65535)) waits)
+              RoundIn graph nodes groups positions goals start set 0 (lastEight scratch) waits)
               (sym front)
-              (round-begin can done goal nodes goals start (ready .few-nodes) (drop 8192 (replicate 8200 65535)) waits s
-              (λ i l.
-              getD-drop 8192 (replicate 8200 65535) i 0
-              ∙ getD-replicate 8200 (8192 + i) 65535 0 (omega (arith, ready .few-goals))));
+              (round-begin can done goal nodes goals start (ready .fits .few-nodes) (lastEight scratch) waits s
+              (λ i l. last-new groups scratch f i (omega (arith, ready .few-goals))));
           rest = record { long = refl; stays = refl };
-          scratch-long = length-replicate {A = ℕ} 8200 65535;
+          scratch-long = f .long;
           queue-long = length-replicate {A = ℕ} 1024 0;
           list-long = omega arith;
+          member-long = lm;
+          live-long = ll;
         }
 
     -- all goals are reached, and the nodes with a wait for each are left
@@ -125,20 +135,20 @@ module _ (graph : List ℕ) (nodes groups positions goals : ℕ) where
       left-is : left ≡ attractedAll goals can done goal set
       left-is =
           cut
-          ∙ cut-round can done goal nodes goals set (r .sifted) (ready .few-nodes) waits
+          ∙ cut-round can done goal nodes goals set (r .sifted) (ready .fits .few-nodes) waits
           (λ i x hi hx. r .reached i hi .column x hx)
 
       -- the next round is about them
       pub next-round : RoundIn graph nodes groups positions goals start left 0 last waits
       next-round =
-          round-next can done goal nodes goals start (ready .few-nodes) set last waits r left left-is
+          round-next can done goal nodes goals start (ready .fits .few-nodes) set last waits r left left-is
 
       -- or they are as many as before
       module _ (still : length set ≤ length left) where
         pub last-held : heldIn graph nodes groups positions goals start ≡ set
         unfolding heldIn
         last-held =
-            round-end can done goal nodes goals start (ready .few-nodes) set last waits r left left-is still
+            round-end can done goal nodes goals start (ready .fits .few-nodes) set last waits r left left-is still
 
         -- and the waits are those of the nodes left in the end
         pub last-waits : (old : List ℕ) → goals * nodes ≤ length old → Rest (goals * nodes) old waits

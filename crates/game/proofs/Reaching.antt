@@ -8,7 +8,7 @@ use Prim.Native.Nat.{ℕ, zero, suc, _<_}
 use native.Mathlib.Omega.{arith}
 use borrow.Author.Tests.{eq-eqb, ne-eqb, le-ltb}
 use lib.Dec.{eqb, ltb}
-use lib.ListN.{length, getD, replicate}
+use lib.ListN.{getD, replicate}
 use Rattle.statements.specs.Sets.{numbers, first, iterate, isIn, filter}
 use Rattle.sets.proofs.Tests.{decided, not-both}
 use Rattle.sets.proofs.Members.{Sifted, filter-filter}

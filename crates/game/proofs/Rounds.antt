@@ -1,25 +1,25 @@
 -- Rounds of a game: each leaves the nodes from which every goal is forced; they stand still at last, and a goal whose
 -- targets a round leaves as they are is reached as before. Assumes nothing.
 use mathlib.Core.Path.{_≡_, refl, sym, ap, _∙_}
-use mathlib.Core.Logic.{_⊎_, inl, inr, ⊎-elim}
+use mathlib.Core.Logic.{_⊎_, ⊎-elim}
 use mathlib.Core.Bool.{Bool, true, false, _&&_, _||_, not}
 use mathlib.Core.List.{List, []}
 use Prim.Native.Nat.{ℕ, zero, suc, _+_, _*_, _≤_, _<_}
 use native.Mathlib.Omega.{arith}
 use lib.Dec.{eqb}
 use lib.ListN.{length, getD}
-use borrow.Author.Tests.{eqb-false, ne-eqb, not-true}
+use borrow.Author.Tests.{ne-eqb}
 use Rattle.statements.specs.Sets.{pick, numbers, every, first, iterate, isIn, filter}
-use Rattle.sets.proofs.Tests.{decided, same-number, not-both, and-true, and-left, and-right, or-left, or-right, or-cases}
+use Rattle.sets.proofs.Tests.{same-number, and-true, and-left, and-right, or-left, or-right, or-cases}
 use Rattle.sets.proofs.Numbers.{every-at, every-all}
 use Rattle.sets.proofs.First.{first-range, first-alike}
-use Rattle.sets.proofs.Members.{Sifted, sifted-filter, sifted-member, sifted-same, sifted-sub, filter-holds, filter-in}
+use Rattle.sets.proofs.Members.{Sifted, sifted-same, sifted-sub, filter-holds, filter-in}
 use Rattle.sets.proofs.Iterate.{sifted-as-long, sifted-longer, sifted-few, sifted-below, iterate-still, shrunk-full}
 use Rattle.game.specs.Walked.{orMark}
 use Rattle.game.specs.Game.{Can, grownIn, aims, reachedIn, attracted, attractedAll, heldAfter, stepsTo}
 use Rattle.game.specs.Cuts.{waitsAll}
-use Rattle.game.proofs.Attractors.{Sub, grown-can, grown-holds, reached-sifted, reached-within, reached-suc}
-use Rattle.game.proofs.Attractors.{reached-zero, attracted-within, attracted-closed, steps-first}
+use Rattle.game.proofs.Attractors.{Sub, reached-within, reached-suc}
+use Rattle.game.proofs.Attractors.{reached-zero, attracted-closed, steps-first}
 
 -- a step before the others or after them
 inside : (k : ℕ) (f : List ℕ → List ℕ) (xs : List ℕ) → iterate k f (f xs) ≡ f (iterate k f xs)

@@ -19,8 +19,8 @@ use Rattle.game.specs.Walked.{nodes, canEnter, waitOf, walkedWaits}
 use Rattle.game.specs.Game.{aims, stepsTo}
 use Rattle.game.specs.Packed.{groupsIn, revIn, startsIn, labelsIn, goalOf, overAt, canIn}
 use Rattle.game.specs.Cuts.{aimed}
-use Rattle.game.specs.Playing.{Ready, RoundIn, Standing, Rest}
-use Rattle.game.proofs.Begun.{starts-nodes}
+use Rattle.game.specs.Playing.{Ready, RoundIn, Standing, Rest, lastEight}
+use Rattle.game.proofs.Parts.{starts-nodes}
 use Rattle.game.proofs.Playing.{round-skip, round-reach}
 use Rattle.game.proofs.Standing.{can-more, can-nothing, aimed-aims}
 use Rattle.game.proofs.Reaching.{reach-steps}
@@ -94,11 +94,11 @@ module _ (gs starts rev member line : List ℕ) (n : ℕ) (en : nodes starts ≡
 -- the goals before `at` are reached if the round has begun, and no number after the columns is another than before
 pub record Seeking (graph : List ℕ) (n groups positions goals : ℕ) (now scratch₀ waits₀ scratch waits : List ℕ)
     (at : ℕ) : Type 0 where
-  pub round : (start : List ℕ) → RoundIn graph n groups positions goals start now 0 (drop 8192 scratch₀) waits₀
-      → RoundIn graph n groups positions goals start now at (drop 8192 scratch) waits
+  pub round : (start : List ℕ) → RoundIn graph n groups positions goals start now 0 (lastEight scratch₀) waits₀
+      → RoundIn graph n groups positions goals start now at (lastEight scratch) waits
   pub rest : Rest (goals * n) waits₀ waits
   pub within : at ≤ goals
-  pub long : length scratch ≡ 8200
+  pub long : length scratch ≡ length scratch₀
 
 -- the targets of a goal in line, and where its column is
 pub record Turn (n goals : ℕ) (waits : List ℕ) (at tail : ℕ) (line : List ℕ) : Type 0 where
@@ -108,15 +108,22 @@ pub record Turn (n goals : ℕ) (waits : List ℕ) (at tail : ℕ) (line : List 
   pub size : tail ≡ length line
   pub sifted : Sifted (numbers n 0) line
 
+-- the last 8 numbers, from a place on
+last-from : (place : ℕ) (xs : List ℕ) → length xs ≡ place + 8 → lastEight xs ≡ drop place xs
+unfolding lastEight
+last-from place xs e =
+    let at : length xs - 8 ≡ place = omega arith in
+    ap (λ (a : ℕ). drop a xs) at
+
 -- before the first goal
-pub seek-none : {graph : List ℕ} {n groups positions goals : ℕ} {now scratch waits : List ℕ} → length scratch ≡ 8200
+pub seek-none : {graph : List ℕ} {n groups positions goals : ℕ} {now scratch waits : List ℕ}
     → Seeking graph n groups positions goals now scratch waits scratch waits 0
-seek-none long =
+seek-none =
     record {
       round = λ start r. r;
       rest = record { long = refl; stays = refl };
       within = omega arith;
-      long = long;
+      long = refl;
     }
 
 module _ {graph : List ℕ} {n groups positions goals : ℕ} {now : List ℕ} (member : List ℕ)
@@ -133,19 +140,27 @@ module _ {graph : List ℕ} {n groups positions goals : ℕ} {now : List ℕ} (m
   -- one goal
   module _ {scratch₀ waits₀ scratch waits : List ℕ} {at tail : ℕ}
       (k : Seeking graph n groups positions goals now scratch₀ waits₀ scratch waits at) (low : at < goals)
-      (et : tail ≡ length (aimed (labelsIn graph n) member at now)) where
+      (et : tail ≡ length (aimed (labelsIn graph n) member at now)) (wide : 8 ≤ length scratch₀) where
+    -- where the numbers of targets begin
+    abbrev place : ℕ
+    place = length scratch₀ - 8
+
+    last-was : lastEight scratch ≡ drop place scratch
+    last-was = last-from place scratch (omega (arith, k .long))
+
     -- as many targets as in the round before
-    pub seek-skip : getD scratch (8192 + at) 0 ≡ tail
+    pub seek-skip : getD scratch (place + at) 0 ≡ tail
         → Seeking graph n groups positions goals now scratch₀ waits₀ scratch waits (at + 1)
     unfolding canIn
     seek-skip same =
         record {
           round = λ start r.
               round-skip (canIn graph n groups positions) (overAt (labelsIn graph n)) (goalOf (labelsIn graph n)) n
-              goals start (ready .few-nodes) now (drop 8192 scratch) waits at (k .round start r) low
+              goals start (ready .fits .few-nodes) now (lastEight scratch) waits at (k .round start r) low
               (can-more (groupsIn graph groups) (startsIn graph n) (revIn graph positions))
               (can-nothing (groupsIn graph groups) (startsIn graph n) (revIn graph positions))
-              (getD-drop 8192 scratch at 0 ∙ (same ∙ (et ∙ ap length (targets-are at))));
+              (ap (λ (l : List ℕ). getD l at 0) last-was
+              ∙ (getD-drop place scratch at 0 ∙ (same ∙ (et ∙ ap length (targets-are at)))));
           rest = k .rest;
           within = omega arith;
           long = k .long;
@@ -168,10 +183,10 @@ module _ {graph : List ℕ} {n groups positions goals : ℕ} {now : List ℕ} (m
 
     -- another number of them: it is noted, and the reach worked out
     pub seek-reach : (line counts new : List ℕ) {scratch' waits' : List ℕ} → goals * n ≤ length waits₀
-        → line ≡ aimed (labelsIn graph n) member at now → length counts ≡ 8192
+        → line ≡ aimed (labelsIn graph n) member at now → length counts ≡ place
         → new ≡ walkedWaits (groupsIn graph groups) (startsIn graph n) (revIn graph positions) member
         (zeroed line (replicate n 65535))
-        → scratch' ≡ counts ++ drop 8192 (set scratch (8192 + at) tail)
+        → scratch' ≡ counts ++ drop place (set scratch (place + at) tail)
         → waits' ≡ take (at * n) waits ++ (new ++ drop (at * n + n - at * n) (drop (at * n) waits))
         → Seeking graph n groups positions goals now scratch₀ waits₀ scratch' waits' (at + 1)
     unfolding canIn
@@ -181,23 +196,34 @@ module _ {graph : List ℕ} {n groups positions goals : ℕ} {now : List ℕ} (m
         let rev = revIn graph positions in
         let done = overAt (labelsIn graph n) in
         let goal = goalOf (labelsIn graph n) in
-        let kept = drop 8192 (set scratch (8192 + at) tail) in
+        let kept = drop place (set scratch (place + at) tail) in
         let few = ready .few-goals in
-        let nl = starts-nodes graph n (ready .few-nodes) (ready .long) in
+        let nl = starts-nodes graph (ready .fits) in
+        let same : length scratch' ≡ length scratch₀ =
+        ap length es
+        ∙ omega (
+          arith,
+          length-append counts kept,
+          length-drop place (set scratch (place + at) tail),
+          length-set scratch (place + at) tail,
+          k .long,
+        ) in
         let turn = seek-turn room el in
-        let wide : at * n + n - at * n ≡ n = omega arith in
+        let span : at * n + n - at * n ≡ n = omega arith in
         let long = column-length gs starts rev member line n nl new en in
-        let size = put-length (at * n) n (at * n + n - at * n) waits new waits' (turn .room) long wide ew in
-        let out = put-out (at * n) n (at * n + n - at * n) waits new waits' (turn .room) long wide ew in
+        let size = put-length (at * n) n (at * n + n - at * n) waits new waits' (turn .room) long span ew in
+        let out = put-out (at * n) n (at * n + n - at * n) waits new waits' (turn .room) long span ew in
         record {
           round = λ start r.
-              round-reach (canIn graph n groups positions) done goal n goals start (ready .few-nodes) now
-              (drop 8192 scratch) waits at (k .round start r) low (drop 8192 scratch') waits' tail
-              (omega (arith, length-drop 8192 scratch, k .long))
-              (ap (drop 8192) es ∙ (drop-at counts kept 8192 ec ∙ drop-set-add 8192 scratch at tail))
+              round-reach (canIn graph n groups positions) done goal n goals start (ready .fits .few-nodes) now
+              (lastEight scratch) waits at (k .round start r) low (lastEight scratch') waits' tail
+              (omega (arith, ap length last-was, length-drop place scratch, k .long))
+              (last-from place scratch' (omega arith)
+              ∙ (ap (drop place) es ∙ (drop-at counts kept place ec ∙ (drop-set-add place scratch at tail
+              ∙ ap (λ (l : List ℕ). set l at tail) (sym last-was)))))
               (et ∙ ap length (targets-are at))
               (λ x h.
-              put-in (at * n) n (at * n + n - at * n) waits new waits' (turn .room) long wide ew x h
+              put-in (at * n) n (at * n + n - at * n) waits new waits' (turn .room) long span ew x h
               ∙ column-steps gs starts rev member line n nl new en now done (goal at) s standing
               (el ∙ targets-are at) x h)
               out;
@@ -208,22 +234,14 @@ module _ {graph : List ℕ} {n groups positions goals : ℕ} {now : List ℕ} (m
                 ∙ k .rest .stays;
           };
           within = omega arith;
-          long =
-              ap length es
-              ∙ omega (
-                arith,
-                length-append counts kept,
-                length-drop 8192 (set scratch (8192 + at) tail),
-                length-set scratch (8192 + at) tail,
-                k .long,
-              );
+          long = same;
         }
 
 -- after the last goal
 pub seek-end : {graph : List ℕ} {n groups positions goals : ℕ} {now scratch₀ waits₀ scratch waits : List ℕ} {at : ℕ}
     → Seeking graph n groups positions goals now scratch₀ waits₀ scratch waits at → goals ≤ at
-    → ((start : List ℕ) → RoundIn graph n groups positions goals start now 0 (drop 8192 scratch₀) waits₀
-    → RoundIn graph n groups positions goals start now goals (drop 8192 scratch) waits)
+    → ((start : List ℕ) → RoundIn graph n groups positions goals start now 0 (lastEight scratch₀) waits₀
+    → RoundIn graph n groups positions goals start now goals (lastEight scratch) waits)
     × Rest (goals * n) waits₀ waits
 seek-end {goals} {at} k h =
     let all : at ≡ goals = omega (arith, k .within) in

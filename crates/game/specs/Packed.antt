@@ -1,10 +1,10 @@
 -- A game packed into one array, and what is worked out of it. Assumes nothing.
 use mathlib.Core.Bool.{Bool, _&&_}
 use mathlib.Core.List.{List}
-use Prim.Native.Nat.{ℕ, suc, _+_, _-_, _*_}
+use Prim.Native.Nat.{ℕ, suc, _+_, _-_, _*_, _/_}
 use lib.Dec.{leb}
 use lib.ListN.{length, getD, take, drop}
-use Rattle.statements.specs.Sets.{bit, pick, every, isIn, over}
+use Rattle.statements.specs.Sets.{bit, every, isIn, over}
 use Rattle.arrays.specs.Lists.{rising}
 use Rattle.game.specs.Walked.{canEnter, ordered, allBelow}
 use Rattle.game.specs.Game.{Can, heldAfter, stepsOf}
@@ -13,18 +13,23 @@ use Rattle.game.specs.Game.{Can, heldAfter, stepsOf}
 unfoldable pub part : ℕ → ℕ → List ℕ → List ℕ
 part a n xs = take (a + n - a) (drop a xs)
 
+-- how many groups, and how many positions, an array of so many numbers has room for, beside 1,025 starts and 1,024
+-- labels
+unfoldable pub placesIn : ℕ → ℕ
+placesIn n = (n - 2049) / 2
+
 -- the node of each group, the groups by the node that they have an end at, where those of each node begin, and labels
 unfoldable pub groupsIn : List ℕ → ℕ → List ℕ
 groupsIn graph groups = take groups graph
 
 unfoldable pub revIn : List ℕ → ℕ → List ℕ
-revIn graph positions = part 8192 positions graph
+revIn graph positions = part (placesIn (length graph)) positions graph
 
 unfoldable pub startsIn : List ℕ → ℕ → List ℕ
-startsIn graph nodes = part 16384 (nodes + 1) graph
+startsIn graph nodes = part (length graph - 2049) (nodes + 1) graph
 
 unfoldable pub labelsIn : List ℕ → ℕ → List ℕ
-labelsIn graph nodes = part 17409 nodes graph
+labelsIn graph nodes = part (length graph - 1024) nodes graph
 
 -- a label's bits: bit 1 + i says in goal i, bit 15 that a run is over there
 unfoldable pub goalOf : List ℕ → ℕ → ℕ → Bool
@@ -40,8 +45,8 @@ canIn graph nodes groups positions = canEnter (groupsIn graph groups) (startsIn 
 -- the numbers fit: there is room, and there is a goal
 unfoldable pub roomyFor : ℕ → ℕ → ℕ → ℕ → ℕ → ℕ → Bool
 roomyFor nodes groups positions goals graph waits =
-    leb nodes 1024 && (leb groups 8192 && (leb positions 8192 && (leb 1 goals && (leb goals 8
-    && (leb 18433 graph && leb (goals * nodes) waits)))))
+    leb nodes 1024 && (leb 2049 graph && (leb (placesIn graph) 8192 && (leb groups (placesIn graph)
+    && (leb positions (placesIn graph) && (leb 1 goals && (leb goals 8 && leb (goals * nodes) waits))))))
 
 -- the arrays are those of a hypergraph: starts in order, numbers in range, and each group has an end
 unfoldable pub hypergraph : List ℕ → ℕ → ℕ → ℕ → Bool
@@ -49,6 +54,13 @@ hypergraph graph nodes groups positions =
     ordered (startsIn graph nodes) positions
     && (allBelow (revIn graph positions) groups && (allBelow (groupsIn graph groups) nodes
     && every groups 0 (λ g. isIn g (revIn graph positions))))
+
+-- what is tested of them in one go: the starts, the numbers, and a rising list of nodes
+abbrev pub soundIn : List ℕ → ℕ → ℕ → ℕ → List ℕ → Bool
+soundIn graph nodes groups positions start =
+    ordered (startsIn graph nodes) positions
+    && (allBelow (revIn graph positions) groups
+    && (allBelow (groupsIn graph groups) nodes && rising 0 nodes start))
 
 -- a game that can be worked out: it fits, and the start is a rising list of its nodes
 unfoldable pub playable : List ℕ → ℕ → ℕ → ℕ → ℕ → List ℕ → ℕ → Bool

@@ -3,25 +3,69 @@ use mathlib.Core.Path.{_≡_}
 use mathlib.Core.Logic.{_⊎_}
 use mathlib.Core.Bool.{Bool, true, _&&_}
 use mathlib.Core.List.{List}
-use Prim.Native.Nat.{ℕ, _+_, _*_, _≤_, _<_}
+use Prim.Native.Nat.{ℕ, _+_, _-_, _*_, _≤_, _<_}
 use lib.Dec.{ltb}
-use lib.ListN.{length, getD, drop}
-use Rattle.statements.specs.Sets.{numbers, isIn}
+use lib.ListN.{length, getD, take, drop}
+use Rattle.statements.specs.Sets.{numbers, isIn, over, pick}
 use Rattle.sets.proofs.Members.{Sifted}
+use Rattle.sort.specs.Steps.{Holds, countOf}
 use Rattle.game.specs.Steps.{Index}
 use Rattle.game.specs.Game.{Can, aims, attractedAll, heldAfter, stepsTo}
-use Rattle.game.specs.Packed.{groupsIn, revIn, startsIn, labelsIn, goalOf, overAt, canIn}
+use Rattle.game.specs.Packed.{placesIn, groupsIn, revIn, startsIn, labelsIn, goalOf, overAt, canIn, roomyFor}
+use Rattle.game.specs.Packed.{soundIn, playable, heldIn, waitsIn}
+
+-- the figures of a game fit an array of so many numbers
+pub record Fits (size nodes groups positions : ℕ) : Type 0 where
+  pub few-nodes : nodes ≤ 1024
+  pub long : 2049 ≤ size
+  pub places-few : placesIn size ≤ 8192
+  pub few-groups : groups ≤ placesIn size
+  pub few-positions : positions ≤ placesIn size
 
 -- a game that can be worked out
 pub record Ready (graph : List ℕ) (nodes groups positions goals : ℕ) : Type 0 where
-  pub few-nodes : nodes ≤ 1024
-  pub few-groups : groups ≤ 8192
-  pub few-positions : positions ≤ 8192
+  pub fits : Fits (length graph) nodes groups positions
   pub some-goal : 0 < goals
   pub few-goals : goals ≤ 8
-  pub long : 18433 ≤ length graph
   pub index : Index (revIn graph positions) (startsIn graph nodes) (groupsIn graph groups)
   pub full : (g : ℕ) → g < groups → isIn g (revIn graph positions) ≡ true
+
+-- the tests that come before the arrays are made hold
+pub record Tested (graph : List ℕ) (nodes groups positions goals : ℕ) (start : List ℕ) (waits : ℕ) : Type 0 where
+  pub roomy : roomyFor nodes groups positions goals (length graph) waits ≡ true
+  pub sound : soundIn graph nodes groups positions start ≡ true
+
+-- what is answered: how many nodes are left, and their waits; 0 and no waits for a game that cannot be worked out
+pub record Worked (graph : List ℕ) (nodes groups positions goals : ℕ) (start old : List ℕ) (count : ℕ) (new : List ℕ)
+    : Type 0 where
+  pub kept : count
+      ≡ pick (playable graph nodes groups positions goals start (length old))
+      (length (heldIn graph nodes groups positions goals start)) 0
+  pub waits : new
+      ≡ pick (playable graph nodes groups positions goals start (length old))
+      (over (waitsIn graph nodes groups positions goals (heldIn graph nodes groups positions goals start)) old) old
+
+-- an array with room for so many numbers, in which nothing but a filler stands
+pub record Fresh (room filler : ℕ) (xs : List ℕ) : Type 0 where
+  pub long : room ≤ length xs
+  pub all : Holds (length xs) (λ t. filler) xs
+
+-- the positions of each group are counted
+pub record Sized (graph : List ℕ) (groups positions : ℕ) (sizes : List ℕ) : Type 0 where
+  pub long : groups ≤ length sizes
+  pub counted : Holds groups (countOf (revIn graph positions) (length (revIn graph positions))) sizes
+
+-- a reach can begin: its targets are in line, and there is room for each node and each group
+pub record Lined (graph : List ℕ) (nodes groups positions : ℕ) (sizes member counts queue : List ℕ) (tail : ℕ)
+    : Type 0 where
+  pub fits : Fits (length graph) nodes groups positions
+  pub index : Index (revIn graph positions) (startsIn graph nodes) (groupsIn graph groups)
+  pub sized : Sized graph groups positions sizes
+  pub member-long : nodes ≤ length member
+  pub counts-long : groups ≤ length counts
+  pub queue-long : nodes ≤ length queue
+  pub number : tail ≡ length (take tail queue)
+  pub sifted : Sifted (numbers nodes 0) (take tail queue)
 
 -- the reach to goal i within a set is worked out: the column of its waits, and how many targets there were
 pub record Reached (can : Can) (done : ℕ → Bool) (goal : ℕ → ℕ → Bool) (n : ℕ) (set : List ℕ) (i : ℕ)
@@ -54,6 +98,10 @@ RoundIn graph nodes groups positions goals start set at last waits =
 abbrev pub Standing : List ℕ → ℕ → ℕ → ℕ → List ℕ → List ℕ → Type 0
 Standing graph nodes groups positions set member =
     (x : ℕ) → x < nodes → ltb (getD member x 0) 1 ≡ (isIn x set && canIn graph nodes groups positions set x)
+
+-- the last 8 numbers of an array: how many targets each goal had
+unfoldable pub lastEight : List ℕ → List ℕ
+lastEight xs = drop (length xs - 8) xs
 
 -- a list is as long as before, and the same from a place on
 pub record Rest (place : ℕ) (old new : List ℕ) : Type 0 where

@@ -11,7 +11,18 @@ ghost use lib.ListN.{length, getD};
 ghost use Rattle.statements.specs.Sets.{over};
 ghost use Rattle.sort.specs.Steps.{Holds, countOf};
 ghost use Rattle.game.specs.Walked.{ordered, allBelow, walkedWaits};
-ghost use Rattle.game.specs.Steps.{Index, Rooms, Queue, Walking, Misses, possible};
+ghost use Rattle.game.specs.Steps.{Index, Rooms, Walking, Misses, possible};
+ghost use Rattle.game.specs.Packed.{placesIn};
+
+// How many groups, and how many positions, a packed game of so many numbers has room for.
+pub fn places(length: usize) -> usize
+    ensures { λ r. ⌜ r ≡ placesIn length ⌝ }
+{
+    if length < 2049 {
+        return 0;
+    }
+    (length - 2049) / 2
+}
 
 // The starts begin with 0, never fall, and end with the number of positions.
 fn rising(starts: &[u16], positions: usize) -> bool

@@ -1,6 +1,7 @@
 // The rounds of a game: each reaches every goal from the same set, then strikes out the nodes from which one fails. A
 // goal with as many targets as in the round before is not reached again: its targets, and so its waits, are the same.
 use crate::below;
+use crate::places;
 use crate::reach::Figures;
 use crate::reach::aim;
 use crate::reach::reach;
@@ -12,20 +13,20 @@ use crate::tally;
 use arrays::copy;
 use arrays::rises;
 ghost use mathlib.Core.Path.{_≡_};
-ghost use mathlib.Core.Bool.{true, _&&_};
+ghost use mathlib.Core.Bool.{true};
 ghost use mathlib.Core.List.{List};
 ghost use Prim.Native.Nat.{ℕ, _+_, _*_, _<_, _≤_};
 ghost use lib.Dec.{ltb};
-ghost use lib.ListN.{length, getD, take, drop};
-ghost use Rattle.statements.specs.Sets.{numbers, every, filter, over, pick};
+ghost use lib.ListN.{length, getD, take};
+ghost use Rattle.statements.specs.Sets.{numbers, every, isIn, filter, over, pick};
 ghost use Rattle.sets.proofs.Members.{Sifted};
-ghost use Rattle.sort.specs.Steps.{Holds, countOf};
-ghost use Rattle.game.specs.Marks.{Marked};
-ghost use Rattle.arrays.specs.Lists.{rising};
-ghost use Rattle.game.specs.Walked.{ordered, allBelow};
-ghost use Rattle.game.specs.Packed.{groupsIn, revIn, startsIn, roomyFor, playable, heldIn, waitsIn};
+ghost use Rattle.sort.specs.Steps.{Holds};
+ghost use Rattle.game.specs.Marks.{Marked, without};
+ghost use Rattle.game.specs.Packed.{placesIn, groupsIn, revIn, startsIn, roomyFor, soundIn, playable, heldIn};
+ghost use Rattle.game.specs.Packed.{waitsIn};
 ghost use Rattle.game.specs.Cuts.{waitsAll};
-ghost use Rattle.game.specs.Playing.{Ready, RoundIn, Standing, Rest};
+ghost use Rattle.game.specs.Playing.{Fits, Ready, Tested, Worked, Fresh, Sized, RoundIn, Standing, Rest};
+ghost use Rattle.game.specs.Playing.{lastEight};
 
 // How many nodes, groups, positions and goals a game has.
 pub struct Shape {
@@ -63,6 +64,43 @@ fn open(live: &[u16], n: usize, member: &mut [u16])
     }
 }
 
+// Strikes the nodes of a list out of a packed game.
+fn strike_in(
+    graph: &[u16],
+    game: Figures,
+    gone: &[u16],
+    member: &mut [u16],
+    live: &mut [u16],
+    dead: &mut [u16],
+)
+    requires ready { ⌜ Ready (now graph) (game .nodes) (game .groups) (game .positions) (game .goals) ⌝ }
+    requires inside { ⌜ ((x : ℕ) → isIn x (now gone) ≡ true → x < game .nodes) ⌝ }
+    requires marked { ⌜ ((set : List ℕ) × Marked (groupsIn (now graph) (game .groups))
+        (startsIn (now graph) (game .nodes)) (revIn (now graph) (game .positions)) set
+        (now member) (now live) (now dead)) ⌝ }
+    ensures { λ _. ⌜ ((set : List ℕ) → Marked (groupsIn (now (graph .entry)) (game .groups))
+        (startsIn (now (graph .entry)) (game .nodes)) (revIn (now (graph .entry)) (game .positions)) set
+        (now (member .entry)) (now (live .entry)) (now (dead .entry))
+        → Marked (groupsIn (now (graph .entry)) (game .groups)) (startsIn (now (graph .entry)) (game .nodes))
+        (revIn (now (graph .entry)) (game .positions)) (without (now (gone .entry)) set)
+        (now (member .exit)) (now (live .exit)) (now (dead .exit))) ⌝ }
+{
+    let nodes = game.nodes;
+    let groups = game.groups;
+    let positions = game.positions;
+    let rev = places(graph.len());
+    let starts = graph.len() - 2049;
+    strike(
+        &graph[rev..rev + positions],
+        &graph[starts..starts + (nodes + 1)],
+        &graph[..groups],
+        gone,
+        member,
+        live,
+        dead,
+    );
+}
+
 // The set begins: all nodes but those of a list are struck out.
 fn begin(
     graph: &[u16],
@@ -74,29 +112,20 @@ fn begin(
 )
     requires ready { ⌜ Ready (now graph) (game .nodes) (game .groups) (game .positions) (game .goals) ⌝ }
     requires start { ⌜ Sifted (numbers (game .nodes) 0) (now start) ⌝ }
-    requires member { ⌜ (game .nodes ≤ length (now member)) × Holds (game .nodes) (λ x. 65535) (now member) ⌝ }
-    requires live { ⌜ (game .nodes ≤ length (now live)) × Holds (length (now live)) (λ x. 0) (now live) ⌝ }
-    requires dead { ⌜ (game .groups ≤ length (now dead)) × Holds (game .groups) (λ x. 0) (now dead) ⌝ }
+    requires member { ⌜ Fresh (game .nodes) 65535 (now member) ⌝ }
+    requires live { ⌜ Fresh (game .nodes) 0 (now live) ⌝ }
+    requires dead { ⌜ Fresh (game .groups) 0 (now dead) ⌝ }
     ensures { λ _. ⌜ Marked (groupsIn (now (graph .entry)) (game .groups)) (startsIn (now (graph .entry)) (game .nodes))
         (revIn (now (graph .entry)) (game .positions)) (now (start .entry))
         (now (member .exit)) (now (live .exit)) (now (dead .exit)) ⌝ }
 {
     let nodes = game.nodes;
     let groups = game.groups;
-    let positions = game.positions;
     tally(&graph[..groups], live);
     open(live, nodes, member);
     let mut gone = [0u16; 1024];
     let count = rest(start, nodes, &mut gone);
-    strike(
-        &graph[8192..8192 + positions],
-        &graph[16384..16384 + (nodes + 1)],
-        &graph[..groups],
-        &gone[..count],
-        member,
-        live,
-        dead,
-    );
+    strike_in(graph, game, &gone[..count], member, live, dead);
 }
 
 // Strikes out the nodes that have no wait for some goal. Takes the nodes of the set, at the front of a list; leaves
@@ -125,20 +154,10 @@ fn shrink(
         (take r (now (list .exit))) (now (member .exit)) (now (live .exit)) (now (dead .exit)) ⌝ }
 {
     let nodes = game.nodes;
-    let groups = game.groups;
-    let positions = game.positions;
     let goals = game.goals;
     let kept = game.kept;
     let left = cut(waits, nodes, goals, list, kept, gone);
-    strike(
-        &graph[8192..8192 + positions],
-        &graph[16384..16384 + (nodes + 1)],
-        &graph[..groups],
-        &gone[..kept - left],
-        member,
-        live,
-        dead,
-    );
+    strike_in(graph, game, &gone[..kept - left], member, live, dead);
     left
 }
 
@@ -162,8 +181,8 @@ fn held(game: Figures, kept: usize) -> Figures
 }
 
 // One round: the reach to each goal from the same set. A goal with as many targets as in the round before has the same
-// ones, and its waits stay. In the scratch numbers stand the counters of the groups, and from place 8192 on how many
-// targets each goal had.
+// ones, and its waits stay. In the scratch numbers stand the counters of the groups, and in the last 8 how many targets
+// each goal had.
 fn seek(
     graph: &[u16],
     game: Figures,
@@ -175,33 +194,34 @@ fn seek(
     queue: &mut [u16],
 )
     requires ready { ⌜ Ready (now graph) (game .nodes) (game .groups) (game .positions) (game .goals) ⌝ }
-    requires sizes { ⌜ (game .groups ≤ length (now sizes)) × Holds (game .groups)
-        (countOf (revIn (now graph) (game .positions)) (length (revIn (now graph) (game .positions)))) (now sizes) ⌝ }
+    requires sizes { ⌜ Sized (now graph) (game .groups) (game .positions) (now sizes) ⌝ }
     requires set { ⌜ Sifted (numbers (game .nodes) 0) (now set) ⌝ }
     requires member { ⌜ (game .nodes ≤ length (now member))
         × Standing (now graph) (game .nodes) (game .groups) (game .positions) (now set) (now member) ⌝ }
-    requires room { ⌜ (length (now scratch) ≡ 8200) × ((game .goals * game .nodes ≤ length (now waits))
+    requires room { ⌜ (game .groups + 8 ≤ length (now scratch)) × ((game .goals * game .nodes ≤ length (now waits))
         × (length (now queue) ≡ 1024)) ⌝ }
     ensures round { λ _. ⌜ ((start : List ℕ) →
-        RoundIn (now (graph .entry)) (game .nodes) (game .groups) (game .positions) (game .goals) start (now (set .entry)) 0
-        (drop 8192 (now (scratch .entry))) (now (waits .entry))
+        RoundIn (now (graph .entry)) (game .nodes) (game .groups) (game .positions) (game .goals) start
+        (now (set .entry)) 0 (lastEight (now (scratch .entry))) (now (waits .entry))
         → RoundIn (now (graph .entry)) (game .nodes) (game .groups) (game .positions) (game .goals) start
-        (now (set .entry)) (game .goals) (drop 8192 (now (scratch .exit))) (now (waits .exit))) ⌝ }
+        (now (set .entry)) (game .goals) (lastEight (now (scratch .exit))) (now (waits .exit))) ⌝ }
     ensures rest { λ _. ⌜ Rest (game .goals * game .nodes) (now (waits .entry)) (now (waits .exit)) ⌝ }
 {
     let nodes = game.nodes;
+    let labels = graph.len() - 1024;
+    let last = scratch.len() - 8;
     let mut goal = 0;
     while goal < game.goals {
-        let tail = aim(&graph[17409..17409 + nodes], set, member, goal, queue);
-        if scratch[8192 + goal] as usize != tail {
-            scratch[8192 + goal] = tail as u16;
+        let tail = aim(&graph[labels..labels + nodes], set, member, goal, queue);
+        if scratch[last + goal] as usize != tail {
+            scratch[last + goal] = tail as u16;
             let from = goal * nodes;
             reach(
                 graph,
                 game,
                 sizes,
                 member,
-                &mut scratch[..8192],
+                &mut scratch[..last],
                 &mut waits[from..from + nodes],
                 queue,
                 tail,
@@ -211,31 +231,32 @@ fn seek(
     }
 }
 
-// The rounds, until one strikes nothing out; leaves the waits of the nodes that are left, and returns their number.
+// The set begins, and the rounds are played until one strikes nothing out; leaves the waits of the nodes that are left,
+// and returns their number.
 fn play(
     graph: &[u16],
     game: Figures,
     sizes: &[u16],
     start: &[u16],
-    member: &mut [u16],
-    live: &mut [u16],
     dead: &mut [u16],
+    scratch: &mut [u16],
     waits: &mut [u16],
 ) -> usize
     requires ready { ⌜ Ready (now graph) (game .nodes) (game .groups) (game .positions) (game .goals) ⌝ }
-    requires sizes { ⌜ (game .groups ≤ length (now sizes)) × Holds (game .groups)
-        (countOf (revIn (now graph) (game .positions)) (length (revIn (now graph) (game .positions)))) (now sizes) ⌝ }
+    requires sizes { ⌜ Sized (now graph) (game .groups) (game .positions) (now sizes) ⌝ }
     requires start { ⌜ Sifted (numbers (game .nodes) 0) (now start) ⌝ }
+    requires dead { ⌜ Fresh (game .groups) 0 (now dead) ⌝ }
+    requires scratch { ⌜ Fresh (game .groups + 8) 65535 (now scratch) ⌝ }
     requires room { ⌜ game .goals * game .nodes ≤ length (now waits) ⌝ }
-    requires marked { ⌜ Marked (groupsIn (now graph) (game .groups)) (startsIn (now graph) (game .nodes))
-        (revIn (now graph) (game .positions)) (now start) (now member) (now live) (now dead) ⌝ }
     ensures number { λ r. ⌜ r ≡ length (heldIn (now (graph .entry)) (game .nodes) (game .groups) (game .positions)
         (game .goals) (now (start .entry))) ⌝ }
     ensures waits { λ _. ⌜ now (waits .exit) ≡ over (waitsIn (now (graph .entry)) (game .nodes) (game .groups)
         (game .positions) (game .goals) (heldIn (now (graph .entry)) (game .nodes) (game .groups) (game .positions)
         (game .goals) (now (start .entry)))) (now (waits .entry)) ⌝ }
 {
-    let mut scratch = [65535u16; 8200];
+    let mut member = [65535u16; 1024];
+    let mut live = [0u16; 1024];
+    begin(graph, game, start, &mut member, &mut live, dead);
     let mut queue = [0u16; 1024];
     let mut list = [0u16; 1024];
     copy(start, &mut list);
@@ -246,13 +267,22 @@ fn play(
             game,
             sizes,
             &list[..kept],
-            member,
-            &mut scratch,
+            &member,
+            scratch,
             waits,
             &mut queue,
         );
         let now = held(game, kept);
-        let left = shrink(graph, now, waits, &mut list, member, live, dead, &mut queue);
+        let left = shrink(
+            graph,
+            now,
+            waits,
+            &mut list,
+            &mut member,
+            &mut live,
+            dead,
+            &mut queue,
+        );
         if kept <= left {
             return kept;
         }
@@ -264,30 +294,103 @@ fn play(
 fn roomy(shape: Shape, graph: usize, waits: usize) -> bool
     ensures { λ r. ⌜ r ≡ roomyFor (shape .nodes) (shape .groups) (shape .positions) (shape .goals) graph waits ⌝ }
 {
+    let most = places(graph);
     let small = (shape.nodes <= 1024)
-        & ((shape.groups <= 8192)
-            & ((shape.positions <= 8192) & ((1 <= shape.goals) & (shape.goals <= 8))));
+        & ((2049 <= graph)
+            & ((most <= 8192)
+                & ((shape.groups <= most)
+                    & ((shape.positions <= most) & ((1 <= shape.goals) & (shape.goals <= 8))))));
     if !small {
         return false;
     }
-    (18433 <= graph) & (shape.goals * shape.nodes <= waits)
+    shape.goals * shape.nodes <= waits
 }
 
 // The starts are in order, all numbers are in range, and the list is a rising one of nodes.
 fn sound(graph: &[u16], shape: Shape, start: &[u16]) -> bool
-    requires { ⌜ (shape .nodes ≤ 1024) × ((shape .groups ≤ 8192) × ((shape .positions ≤ 8192)
-        × (18433 ≤ length (now graph)))) ⌝ }
-    ensures { λ r. ⌜ r ≡ (ordered (startsIn (now (graph .entry)) (shape .nodes)) (shape .positions)
-        && (allBelow (revIn (now (graph .entry)) (shape .positions)) (shape .groups)
-        && (allBelow (groupsIn (now (graph .entry)) (shape .groups)) (shape .nodes)
-        && rising 0 (shape .nodes) (now (start .entry))))) ⌝ }
+    requires { ⌜ Fits (length (now graph)) (shape .nodes) (shape .groups) (shape .positions) ⌝ }
+    ensures { λ r. ⌜ r ≡ soundIn (now (graph .entry)) (shape .nodes) (shape .groups) (shape .positions)
+        (now (start .entry)) ⌝ }
 {
     let nodes = shape.nodes;
     let groups = shape.groups;
     let positions = shape.positions;
-    rising(&graph[16384..16384 + (nodes + 1)], positions)
-        & (below(&graph[8192..8192 + positions], groups)
+    let rev = places(graph.len());
+    let starts = graph.len() - 2049;
+    rising(&graph[starts..starts + (nodes + 1)], positions)
+        & (below(&graph[rev..rev + positions], groups)
             & (below(&graph[..groups], nodes) & rises(start, nodes)))
+}
+
+// The positions of each group are counted; where each group has one, the game is played.
+fn within(
+    graph: &[u16],
+    game: Figures,
+    start: &[u16],
+    sizes: &mut [u16],
+    dead: &mut [u16],
+    scratch: &mut [u16],
+    waits: &mut [u16],
+) -> usize
+    requires tested { ⌜ Tested (now graph) (game .nodes) (game .groups) (game .positions) (game .goals) (now start)
+        (length (now waits)) ⌝ }
+    requires sizes { ⌜ Fresh (game .groups) 0 (now sizes) ⌝ }
+    requires dead { ⌜ Fresh (game .groups) 0 (now dead) ⌝ }
+    requires scratch { ⌜ Fresh (game .groups + 8) 65535 (now scratch) ⌝ }
+    ensures { λ r. ⌜ Worked (now (graph .entry)) (game .nodes) (game .groups) (game .positions) (game .goals)
+        (now (start .entry)) (now (waits .entry)) r (now (waits .exit)) ⌝ }
+{
+    let positions = game.positions;
+    let groups = game.groups;
+    let rev = places(graph.len());
+    tally(&graph[rev..rev + positions], sizes);
+    if !covered(&sizes[..groups]) {
+        return 0;
+    }
+    play(graph, game, sizes, start, dead, scratch, waits)
+}
+
+// The arrays for a game with few groups and positions: those for a large one take longer to fill than to use.
+fn small(graph: &[u16], game: Figures, start: &[u16], waits: &mut [u16]) -> usize
+    requires tested { ⌜ Tested (now graph) (game .nodes) (game .groups) (game .positions) (game .goals) (now start)
+        (length (now waits)) ⌝ }
+    requires few { ⌜ placesIn (length (now graph)) ≤ 2048 ⌝ }
+    ensures { λ r. ⌜ Worked (now (graph .entry)) (game .nodes) (game .groups) (game .positions) (game .goals)
+        (now (start .entry)) (now (waits .entry)) r (now (waits .exit)) ⌝ }
+{
+    let mut sizes = [0u16; 2048];
+    let mut dead = [0u16; 2048];
+    let mut scratch = [65535u16; 2056];
+    within(
+        graph,
+        game,
+        start,
+        &mut sizes,
+        &mut dead,
+        &mut scratch,
+        waits,
+    )
+}
+
+// The arrays for any other.
+fn large(graph: &[u16], game: Figures, start: &[u16], waits: &mut [u16]) -> usize
+    requires tested { ⌜ Tested (now graph) (game .nodes) (game .groups) (game .positions) (game .goals) (now start)
+        (length (now waits)) ⌝ }
+    ensures { λ r. ⌜ Worked (now (graph .entry)) (game .nodes) (game .groups) (game .positions) (game .goals)
+        (now (start .entry)) (now (waits .entry)) r (now (waits .exit)) ⌝ }
+{
+    let mut sizes = [0u16; 8192];
+    let mut dead = [0u16; 8192];
+    let mut scratch = [65535u16; 8200];
+    within(
+        graph,
+        game,
+        start,
+        &mut sizes,
+        &mut dead,
+        &mut scratch,
+        waits,
+    )
 }
 
 // Works out a game: which nodes of a list are left when nodes from which some goal cannot be forced are struck out again
@@ -310,32 +413,15 @@ pub fn work_out(graph: &[u16], shape: Shape, start: &[u16], waits: &mut [u16]) -
     if !sound(graph, shape, start) {
         return 0;
     }
-    let positions = shape.positions;
-    let groups = shape.groups;
-    let mut sizes = [0u16; 8192];
-    tally(&graph[8192..8192 + positions], &mut sizes);
-    if !covered(&sizes[..groups]) {
-        return 0;
-    }
-    let mut member = [65535u16; 1024];
-    let mut live = [0u16; 1024];
-    let mut dead = [0u16; 8192];
     let game = Figures {
         nodes: shape.nodes,
-        groups: groups,
-        positions: positions,
+        groups: shape.groups,
+        positions: shape.positions,
         goals: shape.goals,
         kept: start.len(),
     };
-    begin(graph, game, start, &mut member, &mut live, &mut dead);
-    play(
-        graph,
-        game,
-        &sizes,
-        start,
-        &mut member,
-        &mut live,
-        &mut dead,
-        waits,
-    )
+    if places(graph.len()) <= 2048 {
+        return small(graph, game, start, waits);
+    }
+    large(graph, game, start, waits)
 }

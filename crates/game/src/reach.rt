@@ -1,4 +1,5 @@
 // The reach to a goal within a set: its targets in line, then the walk.
+use crate::places;
 use crate::spread;
 use arrays::copy;
 use arrays::mark;
@@ -8,14 +9,12 @@ ghost use mathlib.Core.Bool.{true, _&&_, _||_};
 ghost use Prim.Native.Nat.{ℕ, suc, _+_, _<_, _≤_};
 ghost use lib.Dec.{ltb};
 ghost use lib.ListN.{length, take, replicate};
-ghost use Rattle.statements.specs.Sets.{bit, isIn, numbers};
-ghost use Rattle.sets.proofs.Members.{Sifted};
+ghost use Rattle.statements.specs.Sets.{bit, isIn};
 ghost use Rattle.arrays.specs.Lists.{zeroed};
-ghost use Rattle.sort.specs.Steps.{Holds, countOf};
 ghost use Rattle.game.specs.Walked.{walkedWaits};
-ghost use Rattle.game.specs.Steps.{Index};
 ghost use Rattle.game.specs.Packed.{groupsIn, revIn, startsIn};
 ghost use Rattle.game.specs.Cuts.{aimed};
+ghost use Rattle.game.specs.Playing.{Lined};
 
 // How many nodes, groups, positions and goals a game has, and how many nodes the set has.
 pub struct Figures {
@@ -62,8 +61,8 @@ pub(crate) fn aim(
     while k < list.len() {
         let node = list[k];
         let x = node as usize;
+        queue[tail] = node;
         if begins(labels[x], goal, member[x]) {
-            queue[tail] = node;
             tail += 1;
         }
         k += 1;
@@ -82,15 +81,9 @@ fn from_line(
     queue: &mut [u16],
     tail: usize,
 )
-    requires small { ⌜ (game .nodes ≤ 1024) × ((game .groups ≤ 8192) × ((game .positions ≤ 8192)
-        × (18433 ≤ length (now graph)))) ⌝ }
-    requires index { ⌜ Index (revIn (now graph) (game .positions)) (startsIn (now graph) (game .nodes))
-        (groupsIn (now graph) (game .groups)) ⌝ }
-    requires sizes { ⌜ (game .groups ≤ length (now sizes)) × Holds (game .groups)
-        (countOf (revIn (now graph) (game .positions)) (length (revIn (now graph) (game .positions)))) (now sizes) ⌝ }
-    requires room { ⌜ (now waits ≡ replicate (game .nodes) 65535) × ((game .nodes ≤ length (now queue))
-        × ((game .nodes ≤ length (now member)) × (game .groups ≤ length (now counts)))) ⌝ }
-    requires line { ⌜ (tail ≡ length (take tail (now queue))) × Sifted (numbers (game .nodes) 0) (take tail (now queue)) ⌝ }
+    requires lined { ⌜ Lined (now graph) (game .nodes) (game .groups) (game .positions) (now sizes) (now member)
+        (now counts) (now queue) tail ⌝ }
+    requires waits { ⌜ now waits ≡ replicate (game .nodes) 65535 ⌝ }
     ensures { λ _. ⌜ now (waits .exit) ≡ walkedWaits (groupsIn (now (graph .entry)) (game .groups))
         (startsIn (now (graph .entry)) (game .nodes)) (revIn (now (graph .entry)) (game .positions))
         (now (member .entry)) (zeroed (take tail (now (queue .entry))) (replicate (game .nodes) 65535)) ⌝ }
@@ -98,11 +91,13 @@ fn from_line(
     let nodes = game.nodes;
     let groups = game.groups;
     let positions = game.positions;
+    let rev = places(graph.len());
+    let starts = graph.len() - 2049;
     mark(&queue[..tail], waits);
     copy(&sizes[..groups], counts);
     spread(
-        &graph[8192..8192 + positions],
-        &graph[16384..16384 + (nodes + 1)],
+        &graph[rev..rev + positions],
+        &graph[starts..starts + (nodes + 1)],
         &graph[..groups],
         member,
         counts,
@@ -123,15 +118,9 @@ pub(crate) fn reach(
     queue: &mut [u16],
     tail: usize,
 )
-    requires small { ⌜ (game .nodes ≤ 1024) × ((game .groups ≤ 8192) × ((game .positions ≤ 8192)
-        × (18433 ≤ length (now graph)))) ⌝ }
-    requires index { ⌜ Index (revIn (now graph) (game .positions)) (startsIn (now graph) (game .nodes))
-        (groupsIn (now graph) (game .groups)) ⌝ }
-    requires sizes { ⌜ (game .groups ≤ length (now sizes)) × Holds (game .groups)
-        (countOf (revIn (now graph) (game .positions)) (length (revIn (now graph) (game .positions)))) (now sizes) ⌝ }
-    requires room { ⌜ (length (now waits) ≡ game .nodes) × ((game .nodes ≤ length (now queue))
-        × ((game .nodes ≤ length (now member)) × (game .groups ≤ length (now counts)))) ⌝ }
-    requires line { ⌜ (tail ≡ length (take tail (now queue))) × Sifted (numbers (game .nodes) 0) (take tail (now queue)) ⌝ }
+    requires lined { ⌜ Lined (now graph) (game .nodes) (game .groups) (game .positions) (now sizes) (now member)
+        (now counts) (now queue) tail ⌝ }
+    requires waits { ⌜ length (now waits) ≡ game .nodes ⌝ }
     ensures { λ _. ⌜ now (waits .exit) ≡ walkedWaits (groupsIn (now (graph .entry)) (game .groups))
         (startsIn (now (graph .entry)) (game .nodes)) (revIn (now (graph .entry)) (game .positions))
         (now (member .entry)) (zeroed (take tail (now (queue .entry))) (replicate (game .nodes) 65535)) ⌝ }

@@ -21,7 +21,8 @@ use Rattle.layout.specs.Layout.{Front}
 use Rattle.sort.specs.Sorted.{orderOf, sortedBy, startsOf, sortable}
 use Rattle.sort.proofs.Places.{lower-few}
 use Rattle.sort.proofs.Order.{stable}
-use Rattle.graph.specs.Steps.{Alike, Tabled, Linked}
+use Rattle.game.specs.Packed.{placesIn}
+use Rattle.graph.specs.Steps.{Alike, Linkable, Linked}
 use Rattle.graph.proofs.Positions.{starts-long}
 
 -- the first numbers from a place on
@@ -79,22 +80,6 @@ copied-part n a from to new rest h room e =
     let here : Front (take n from) new = rw (e, fitting-yes (take n from) old fits) (over-front (take n from) old) in
     rw long at (part-front a (take n from) to new rest (omega arith) here)
 
--- four lists put one past the other
-module _ (n g a : ℕ) (first begins moves ends t₁ t₂ t₃ t₄ : List ℕ) where
-  pub tabled : n ≤ 1024 → g ≤ 8192 → Alike (n + 1) (drop 0 t₁) first → Alike 1025 t₂ t₁
-      → Alike (g + 1) (drop 1025 t₂) begins → Alike 9218 t₃ t₂ → Alike g (drop 9218 t₃) moves → Alike 17410 t₄ t₃
-      → Alike a (drop 17410 t₄) ends → Tabled n g a first begins moves ends t₄
-  tabled few-states few-groups first-in second begins-in third moves-in fourth ends-in =
-      let later = alike-less 17410 9218 t₄ t₃ fourth (omega arith) ∙ third in
-      record {
-        first-in =
-            alike-less 1025 (n + 1) t₄ t₁ (alike-less 9218 1025 t₄ t₂ later (omega arith) ∙ second) (omega arith)
-            ∙ first-in;
-        begins-in = alike-part 9218 1025 (g + 1) t₄ t₂ later (omega arith) ∙ begins-in;
-        moves-in = alike-part 17410 9218 g t₄ t₃ fourth (omega arith) ∙ moves-in;
-        ends-in = ends-in;
-      }
-
 -- a label for each state, written one after another
 pub labels-long : (s : List ℕ) → length (plantOf s .labels) ≡ word 0 s
 unfolding plantOf
@@ -122,33 +107,49 @@ sorted-few n keys vals =
 pub picked : {A : Type 0} (b : Bool) (z x y : A) → b ≡ true → z ≡ pick b x y → z ≡ x
 picked b z x y e h = rw e at h
 
+-- the sorted groups end before the starts
+places-low : (m n k s : ℕ) → n ≤ placesIn m → k ≡ placesIn m → s ≡ m - 2049 → k + n ≤ s
+unfolding placesIn
+places-low m n k s few e f = omega arith
+
 -- the sorted groups, the starts and the labels, put one past the other
-module _ (plant ends owners old part from starts g g₂ labels rest rest′ : List ℕ) (n : ℕ) where
-  pub linked : n ≡ word 0 plant → n ≤ 1024 → length ends ≤ 8192 → 18433 ≤ length g → length g₂ ≡ length g
+module _ (plant ends owners old part from starts g g₂ labels rest rest′ : List ℕ) (n k s l : ℕ) where
+  -- the graph with the sorted groups, and with all three
+  abbrev Sorted : List ℕ
+  Sorted = take k g ++ (part ++ rest)
+
+  abbrev Whole : List ℕ
+  Whole = take l g₂ ++ (labels ++ rest′)
+
+  pub linked : n ≡ word 0 plant → Linkable (word 0 plant) ends owners g → length g₂ ≡ length g → length Whole ≡ length g
+      → k ≡ placesIn (length g) → s ≡ length g - 2049 → l ≡ length g - 1024
       → part ≡ over (sortedBy n ends owners) old → starts ≡ over (startsOf n ends) from
-      → Alike 16384 g₂ (take 8192 g ++ (part ++ rest)) → Alike (n + 1) (drop 16384 g₂) starts
-      → Front (plantOf plant .labels) labels
-      → Linked plant ends owners g (take 17409 g₂ ++ (labels ++ rest′))
-  linked same few-states few-ends room long sorted started kept stands labelled =
+      → Alike s g₂ Sorted → Alike (n + 1) (drop s g₂) starts → Front (plantOf plant .labels) labels
+      → Linked plant ends owners g Whole
+  linked same fits long size ks ss ls sorted started kept stands labelled =
       let rev = sortedBy n ends owners in
       let at = startsOf n ends in
-      let g₁ = take 8192 g ++ (part ++ rest) in
-      let g₃ = take 17409 g₂ ++ (labels ++ rest′) in
-      let last : Alike 17409 g₃ g₂ = part-kept 17409 g₂ (labels ++ rest′) (omega arith) in
+      let low : k + length ends ≤ s = places-low (length g) (length ends) k s (fits .ends-fit) ks ss in
+      let last : Alike l Whole g₂ = part-kept l g₂ (labels ++ rest′) (omega (arith, fits .graph-long)) in
       let short = sorted-few n ends owners in
       let starts-are = starts-long n ends owners in
-      let rev-first : Front rev (drop 8192 g₁) =
-      part-front 8192 rev g part rest (omega arith) (rw sorted (over-front rev old)) in
-      let at-second : Front at (drop 16384 g₂) =
-      front-alike (n + 1) at (drop 16384 g₂) starts stands (omega arith) (rw started (over-front at from)) in
+      let rev-first : Front rev (drop k Sorted) =
+      part-front k rev g part rest (omega arith) (rw sorted (over-front rev old)) in
+      let at-second : Front at (drop s g₂) =
+      front-alike (n + 1) at (drop s g₂) starts stands (omega arith) (rw started (over-front at from)) in
       record {
         kept =
-            alike-less 16384 8192 g₃ g₁ (alike-less 17409 16384 g₃ g₂ last (omega arith) ∙ kept) (omega arith)
-            ∙ part-kept 8192 g (part ++ rest) (omega arith);
+            rw (size, ← ks)
+            (alike-less s k Whole Sorted (alike-less l s Whole g₂ last (omega arith) ∙ kept) (omega arith)
+            ∙ part-kept k g (part ++ rest) (omega arith));
         rev-in =
-            rw (← same)
-            (front-kept 17409 8192 rev g₃ g₂ last (omega arith)
-            (front-kept 16384 8192 rev g₂ g₁ kept (omega arith) rev-first));
-        starts-in = rw (← same) (front-kept 17409 16384 at g₃ g₂ last (omega arith) at-second);
-        labels-in = part-front 17409 (plantOf plant .labels) g₂ labels rest′ (omega arith) labelled;
+            rw (← same, size, ← ks)
+            (front-kept l k rev Whole g₂ last (omega arith)
+            (front-kept s k rev g₂ Sorted kept (omega arith) rev-first));
+        starts-in =
+            rw (← same, size, ← ss)
+            (front-kept l s at Whole g₂ last (omega (arith, fits .states-few, fits .graph-long)) at-second);
+        labels-in =
+            rw (size, ← ls)
+            (part-front l (plantOf plant .labels) g₂ labels rest′ (omega arith) labelled);
       }

@@ -5,13 +5,31 @@ use mathlib.Core.Logic.{⊎-elim}
 use mathlib.Core.Bool.{Bool, true, false, _&&_}
 use mathlib.Core.List.{List}
 use Prim.Native.Nat.{ℕ}
-use lib.Dec.{eqb}
+use native.Mathlib.Omega.{arith}
+use lib.Dec.{leb, eqb}
+use lib.ListN.{length}
 use borrow.Author.Tests.{eqb-true, eq-eqb}
-use Rattle.statements.specs.Plants.{plantOf, headOk, plantFault}
-use Rattle.sets.proofs.Tests.{decided, not-both, and-left, and-right, and-true, same-test}
+use Rattle.statements.specs.Plants.{Plant, plantOf, headOk, plantFault}
+use Rattle.sets.proofs.Tests.{decided, not-both, and-left, and-right, and-true, and-iff, leb-iff, same-test}
 use Rattle.decoding.proofs.Faults.{plant-tests}
 use Rattle.format.specs.Checks.{labelsFine, arrowsFine}
 use Rattle.format.proofs.Faults.{no-plant-fault}
+use Rattle.layout.specs.Layout.{tableRoom, roomy}
+use Rattle.layout.specs.Passing.{Room}
+
+-- the test of the room, by the numbers that the code compares, and what it tells
+pub room-is : (p : Plant) (table states : List ℕ) (count h : ℕ) → count ≡ length (p .arrows)
+    → h ≡ tableRoom (length table)
+    → (leb 1026 (length table) && (leb count h && leb count (length states))) ≡ roomy p table states
+unfolding roomy
+room-is p table states count h e f = rw (e, f)
+
+pub room-of : (p : Plant) (table states : List ℕ) → roomy p table states ≡ true
+    → Room (length (p .arrows)) (tableRoom (length table)) table states
+unfolding roomy tableRoom
+room-of p table states h =
+    let k = simp (and-iff, leb-iff) at h in
+    record { table-long = omega arith; table-fits = omega arith; states-fit = omega arith }
 
 and-all : (b : Bool) → (b && true) ≡ b
 and-all true = refl

@@ -3,17 +3,19 @@
 use mathlib.Core.Path.{_≡_, refl, sym, ap, ap₂, _∙_}
 use mathlib.Core.Bool.{Bool, true, false}
 use mathlib.Core.List.{List, [], _∷_, _++_}
-use Prim.Native.Nat.{ℕ, suc, _+_, _≤_, _<_}
+use Prim.Native.Nat.{ℕ, suc, _+_, _-_, _*_, _≤_, _<_}
 use native.Mathlib.Omega.{arith}
-use lib.ListN.{length, take, set, replicate, length-append, length-replicate}
-use lib.Seq.{take-suc-set}
+use lib.ListN.{length, take, drop, set, replicate, length-append, length-drop, length-set}
+use lib.ListN.{length-replicate}
+use lib.Seq.{take-suc-set, take-take, take-set-le, take-append-le, drop-drop, drop-set-lt, drop-set-add, drop-at}
 use Rattle.statements.specs.Sets.{pick}
 use Rattle.statements.specs.Plants.{Plant, ends, available}
 use Rattle.sets.proofs.Joined.{joined-length}
 use Rattle.layout.specs.Layout.{partOf, partsOf, allParts, groupStates, groupMoves, groupEnds, groupSizes}
 use Rattle.layout.specs.Layout.{groupCounts, total, starts, bounds, numbered, groupBegins, firstGroups}
-use Rattle.layout.specs.Layout.{groupOwners, Front, Layout}
-use Rattle.layout.specs.Passing.{Laid}
+use Rattle.layout.specs.Layout.{groupOwners, tableRoom, Front, Layout}
+use Rattle.layout.specs.Passing.{Laid, part, firstPart, beginsPart, movesPart, endsPart, ownersPart, Room}
+use Rattle.layout.specs.Passing.{LaidIn}
 use Rattle.layout.proofs.Lengths.{starts-length}
 use Rattle.layout.proofs.Joining.{joined-total, joined-long}
 
@@ -100,26 +102,78 @@ module _ {p : Plant} {mask g n : ℕ} {first states moves begins ends owners : L
         l .groups-few,
       )
 
-  -- with the sums made, and the last end's place stored, it is the layout
-  pub closed : g < length begins → (m : ℕ) → m ≡ p .states → {first′ begins′ : List ℕ}
-      → take (suc m) first′ ≡ bounds (take m first) → begins′ ≡ set begins g n
-      → Layout p mask first′ states moves begins′ ends owners
-  unfolding firstGroups groupBegins groupOwners bounds
-  closed room m same {first′} {begins′} e b =
+-- a list whose first numbers stand in a part of a table begins there
+front-part : (a h : ℕ) (t : List ℕ) (xs : List ℕ) (n : ℕ) → n ≤ h → length xs ≡ n → take n (part a h t) ≡ xs
+    → Front xs (drop a t)
+unfolding part
+front-part a h t xs n few e is = front (drop a t) xs n e (sym (take-take n h (drop a t) few) ∙ is)
+
+-- with the sums made in its first part, and the last end's place stored, it is the layout
+module _ {p : Plant} {mask g n h : ℕ} {t states : List ℕ} (l : LaidIn p mask g n h t states)
+    (room : Room (length (p .arrows)) h t states) (first : List ℕ) (size : length first ≡ 1025) where
+  -- the table then
+  abbrev Closed : List ℕ
+  Closed = set (first ++ drop 1025 t) (1025 + g) n
+
+  summed : (m : ℕ) → m < 1025 → take (suc m) Closed ≡ take (suc m) first
+  summed m few =
+      take-set-le (suc m) (first ++ drop 1025 t) (1025 + g) n (omega arith)
+      ∙ take-append-le (suc m) first (drop 1025 t) (omega arith)
+
+  stored : drop 1025 Closed ≡ set (drop 1025 t) g n
+  stored =
+      drop-set-add 1025 (first ++ drop 1025 t) g n
+      ∙ ap (λ (k : List ℕ). set k g n) (drop-at first (drop 1025 t) 1025 size)
+
+  closed-long : length Closed ≡ length t
+  closed-long =
+      omega (
+        arith,
+        length-set (first ++ drop 1025 t) (1025 + g) n,
+        length-append first (drop 1025 t),
+        length-drop 1025 t,
+        room .table-long,
+      )
+
+  -- past the number that was stored it is as it was
+  rest-kept : (a : ℕ) → 1025 + g < a → drop a Closed ≡ drop a t
+  rest-kept a low =
+      let place : 1025 + (a - 1025) ≡ a = omega arith in
+      let kept = drop-set-lt (a - 1025) (drop 1025 t) g n (omega arith) in
+      rw (← place)
+      (sym (drop-drop (a - 1025) 1025 Closed) ∙ ap (drop (a - 1025)) stored ∙ kept ∙ drop-drop (a - 1025) 1025 t)
+
+  pub closed : (m : ℕ) → m ≡ p .states → m < 1025 → h ≡ tableRoom (length t)
+      → take (suc m) first ≡ bounds (take m (firstPart t)) → Layout p mask Closed states
+  unfolding firstGroups groupBegins groupOwners bounds part beginsPart movesPart endsPart ownersPart
+  closed m same few here sums =
       let counts = groupCounts p mask in
       let sizes = groupSizes p mask in
+      let place : tableRoom (length Closed) ≡ h = ap tableRoom closed-long ∙ sym here in
+      let groups : g ≤ h = omega (arith, l .groups-few, room .table-fits) in
+      let arrows : n ≤ h = omega (arith, l .arrows-few, room .table-fits) in
+      let begun : take g (drop 1025 t) ≡ starts 0 sizes =
+      sym (take-take g (h + 1) (drop 1025 t) (omega arith)) ∙ l .begins-are in
+      let counted : take (suc m) Closed ≡ bounds (take m (firstPart t)) = summed m few ∙ sums in
       record {
         first-is =
-            front first′ (bounds counts) (suc (p .states))
-            (bounds-length counts ∙ ap suc (counts-length p mask)) (rw same at e ∙ ap bounds (l .counts-are));
-        states-is = front states (groupStates p mask) g (sym groups-count) (l .states-are);
-        moves-is = front moves (groupMoves p mask) g (moves-length p mask ∙ sym (l .groups-are)) (l .moves-are);
+            front Closed (bounds counts) (suc (p .states))
+            (bounds-length counts ∙ ap suc (counts-length p mask)) (rw same at counted ∙ ap bounds (l .counts-are));
         begins-is =
-            front begins′ (bounds sizes) (suc g) (bounds-length sizes ∙ ap suc (sym (l .groups-are)))
-            (ap (take (suc g)) b
-            ∙ take-suc-set begins g n room
-            ∙ ap₂ (λ (k : List ℕ) (i : ℕ). k ++ (i ∷ [])) (l .begins-are) (l .arrows-are));
-        ends-is = front ends (groupEnds p mask) n (sym arrows-count) (l .ends-are);
+            front (drop 1025 Closed) (bounds sizes) (suc g) (bounds-length sizes ∙ ap suc (sym (l .groups-are)))
+            (ap (take (suc g)) stored
+            ∙ take-suc-set (drop 1025 t) g n (omega (arith, length-drop 1025 t, room .table-long))
+            ∙ ap₂ (λ (k : List ℕ) (i : ℕ). k ++ (i ∷ [])) begun (l .arrows-are));
+        moves-is =
+            rw (place, rest-kept (1026 + h) (omega arith))
+            (front-part (1026 + h) h t (groupMoves p mask) g groups (moves-length p mask ∙ sym (l .groups-are))
+            (l .moves-are));
+        ends-is =
+            rw (place, rest-kept (1026 + 2 * h) (omega arith))
+            (front-part (1026 + 2 * h) h t (groupEnds p mask) n arrows (sym (arrows-count l)) (l .ends-are));
         owners-is =
-            front owners (numbered 0 sizes) n (numbered-length 0 sizes ∙ sym (l .arrows-are)) (l .owners-are);
+            rw (place, rest-kept (1026 + 3 * h) (omega arith))
+            (front-part (1026 + 3 * h) h t (numbered 0 sizes) n arrows
+            (numbered-length 0 sizes ∙ sym (l .arrows-are)) (l .owners-are));
+        states-is = front states (groupStates p mask) g (sym (groups-count l)) (l .states-are);
       }

@@ -4,7 +4,8 @@ pub mod Lengths
 pub mod Parts
 pub mod Growing
 pub mod Turns
-pub mod Lent
 pub mod Passed
+pub mod Tables
+pub mod Storing
 pub mod Closing
 pub mod Accepted

@@ -8,7 +8,7 @@ use Prim.Native.Nat.{ℕ, _+_, _-_, _*_, _≤_, _<_}
 use native.Mathlib.Numerals.{add-one}
 use native.Mathlib.Omega.{arith}
 use lib.Dec.{ltb, leb}
-use lib.ListN.{length, getD, take, set, replicate, length-append, length-set}
+use lib.ListN.{length, getD, take, set, replicate, length-append}
 use borrow.Author.Tests.{ltb-true, leb-true}
 use Rattle.statements.specs.Sets.{pick, bit}
 use Rattle.statements.specs.Plants.{word, Arrow, plantOf, rank, arrowsOk, endsIn}
@@ -22,7 +22,6 @@ use Rattle.layout.specs.Layout.{groupStates, groupMoves, groupEnds, grou
 use Rattle.layout.specs.Passing.{Laid}
 use Rattle.layout.proofs.Parts.{having, all-none, counts-none}
 use Rattle.layout.proofs.Growing.{Comes, ends-own, ends-other}
-use Rattle.layout.proofs.Lent.{Room, Same}
 use Rattle.layout.proofs.Turns.{Spare, laid-turn, turn-small, turn-count}
 
 -- the number that arrows of state x and move u are ranked from
@@ -196,7 +195,7 @@ module _ {s : List ℕ} {mask k least g n : ℕ} {first states moves begins ends
     -- the turn
     module _ (room : Spare g n states moves begins ends owners) {on new : ℕ} (eo : on ≡ pick (bit (b .action) mask) 1 0)
         (en : new ≡ pick (leb least (key (b .from) (b .action))) on 0) where
-      pass-turn : Passed s mask (k + 1) next (g + new) (n + on) (set first (b .from) (getD first (b .from) 0 + new))
+      pub pass-turn : Passed s mask (k + 1) next (g + new) (n + on) (set first (b .from) (getD first (b .from) 0 + new))
           (set states g (b .from)) (set moves g (b .action)) (set begins g n) (set ends n (b .to))
           (set owners n (g - (on - new)))
       pass-turn =
@@ -219,50 +218,12 @@ module _ {s : List ℕ} {mask k least g n : ℕ} {first states moves begins ends
             laid = laid-turn comes (t .laid) room begun on new eo en;
           }
 
-      -- told of the arrays after the stores, which are as long as they were
-      module _ {first′ states′ moves′ begins′ ends′ owners′ : List ℕ}
-          (e₁ : first′ ≡ set first (b .from) (getD first (b .from) 0 + new)) (e₂ : states′ ≡ set states g (b .from))
-          (e₃ : moves′ ≡ set moves g (b .action)) (e₄ : begins′ ≡ set begins g n) (e₅ : ends′ ≡ set ends n (b .to))
-          (e₆ : owners′ ≡ set owners n (g - (on - new))) where
-        pub pass-again : Passed s mask (k + 1) next (g + new) (n + on) first′ states′ moves′ begins′ ends′ owners′
-        pass-again = rw (e₁, e₂, e₃, e₄, e₅, e₆) pass-turn
-
-        pub pass-same : Same first′ states′ moves′ begins′ ends′ owners′ first states moves begins ends owners
-        pass-same =
-            record {
-              first-same = ap length e₁ ∙ simp length-set;
-              states-same = ap length e₂ ∙ simp length-set;
-              moves-same = ap length e₃ ∙ simp length-set;
-              begins-same = ap length e₄ ∙ simp length-set;
-              ends-same = ap length e₅ ∙ simp length-set;
-              owners-same = ap length e₆ ∙ simp length-set;
-            }
-
       -- the sums fit
       pub pass-small : (new ≤ on) × (on ≤ 1) × (on - new ≤ g)
       pass-small = turn-small comes (t .laid) begun on new eo en
 
       pub pass-count : (b .from < plantOf s .states) × (getD first (b .from) 0 ≤ g)
       pass-count = (good .from-below, turn-count comes (t .laid) (room .moves-long))
-
--- where an arrow is left there is room for one more of each
-pub spare : {s : List ℕ} {mask k least g n : ℕ}
-    {first states moves begins ends owners first₀ states₀ moves₀ begins₀ ends₀ owners₀ : List ℕ} → PlantHead s
-    → Room first₀ states₀ moves₀ begins₀ ends₀ owners₀
-    → Same first states moves begins ends owners first₀ states₀ moves₀ begins₀ ends₀ owners₀
-    → Passed s mask k least g n first states moves begins ends owners → k < word 3 s
-    → Spare g n states moves begins ends owners
-spare h room same t more =
-    let few = t .laid .groups-few in
-    let few′ = t .laid .arrows-few in
-    let many = t .many in
-    record {
-      states-long = omega (arith, h .arrows-most);
-      moves-long = omega (arith, h .arrows-most);
-      begins-long = omega (arith, h .arrows-most);
-      ends-long = omega (arith, h .arrows-most);
-      owners-long = omega (arith, h .arrows-most);
-    }
 
 -- past the last arrow all are laid out
 module _ {s : List ℕ} {mask k least g n : ℕ} {first states moves begins ends owners : List ℕ}

@@ -3,9 +3,9 @@
 use mathlib.Core.Path.{_≡_}
 use mathlib.Core.Bool.{Bool, _&&_}
 use mathlib.Core.List.{List, [], _∷_, _++_}
-use Prim.Native.Nat.{ℕ, suc, _+_}
+use Prim.Native.Nat.{ℕ, suc, _+_, _-_, _*_, _/_}
 use lib.Dec.{leb}
-use lib.ListN.{length, take, replicate}
+use lib.ListN.{length, take, drop, replicate}
 use Rattle.statements.specs.Sets.{pick, joined}
 use Rattle.statements.specs.Plants.{Plant, ends, available}
 
@@ -72,21 +72,26 @@ firstGroups p mask = bounds (groupCounts p mask)
 unfoldable pub groupOwners : Plant → ℕ → List ℕ
 groupOwners p mask = numbered 0 (groupSizes p mask)
 
--- there is room for the layout of any plant
-unfoldable pub roomy : List ℕ → List ℕ → List ℕ → List ℕ → List ℕ → List ℕ → Bool
-roomy first states moves begins ends owners =
-    leb 1025 (length first) && (leb 8192 (length states) && (leb 8192 (length moves) && (leb 8193 (length begins)
-    && (leb 8192 (length ends) && leb 8192 (length owners)))))
+-- how many groups, and how many ends, a table of so many numbers has room for, beside 1,025 first groups
+unfoldable pub tableRoom : ℕ → ℕ
+tableRoom n = (n - 1026) / 4
+
+-- there is room for the layout of a plant
+unfoldable pub roomy : Plant → List ℕ → List ℕ → Bool
+roomy p table states =
+    leb 1026 (length table)
+    && (leb (length (p .arrows)) (tableRoom (length table)) && leb (length (p .arrows)) (length states))
 
 -- the second list begins with the first
 abbrev pub Front : List ℕ → List ℕ → Type 0
 Front xs all = take (length xs) all ≡ xs
 
--- each array begins with its list
-pub record Layout (p : Plant) (mask : ℕ) (first states moves begins ends owners : List ℕ) : Type 0 where
-  pub first-is : Front (firstGroups p mask) first
+-- the table has the first group of each state, where the ends of each group begin, its move, the ends, and the group of
+-- each; where the parts begin is told from its length. The states of the groups stand apart
+pub record Layout (p : Plant) (mask : ℕ) (table states : List ℕ) : Type 0 where
+  pub first-is : Front (firstGroups p mask) table
+  pub begins-is : Front (groupBegins p mask) (drop 1025 table)
+  pub moves-is : Front (groupMoves p mask) (drop (1026 + tableRoom (length table)) table)
+  pub ends-is : Front (groupEnds p mask) (drop (1026 + 2 * tableRoom (length table)) table)
+  pub owners-is : Front (groupOwners p mask) (drop (1026 + 3 * tableRoom (length table)) table)
   pub states-is : Front (groupStates p mask) states
-  pub moves-is : Front (groupMoves p mask) moves
-  pub begins-is : Front (groupBegins p mask) begins
-  pub ends-is : Front (groupEnds p mask) ends
-  pub owners-is : Front (groupOwners p mask) owners

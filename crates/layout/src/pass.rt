@@ -8,14 +8,13 @@ use format::word::bit_at;
 use format::word::number;
 ghost use mathlib.Core.Path.{_≡_};
 ghost use mathlib.Core.Bool.{true, false};
-ghost use Prim.Native.Nat.{_+_, _*_, _<_};
+ghost use Prim.Native.Nat.{_+_, _*_, _≤_, _<_};
 ghost use lib.Dec.{leb};
 ghost use lib.ListN.{length, getD, set, take, replicate};
 ghost use Rattle.statements.specs.Sets.{pick, bit};
 ghost use Rattle.statements.specs.Plants.{word, plantOf, headOk};
 ghost use Rattle.format.specs.Checks.{arrowsFine};
-ghost use Rattle.layout.specs.Layout.{roomy};
-ghost use Rattle.layout.specs.Passing.{Laid};
+ghost use Rattle.layout.specs.Passing.{Room, LaidIn};
 
 // 1 for a move in service, and otherwise 0.
 fn serves(mask: u32, action: u16) -> u16
@@ -38,37 +37,28 @@ fn opens(arrow: Arrow, least: u64, on: u16) -> u16
 }
 
 // Writes what begins a group at its place: state, move, and the place of its first end.
-fn open(
-    states: &mut [u16],
-    moves: &mut [u16],
-    begins: &mut [u16],
-    group: u16,
-    arrow: Arrow,
-    at: u16,
-)
-    requires state { ⌜ group < length (now states) ⌝ }
-    requires action { ⌜ group < length (now moves) ⌝ }
-    requires begin { ⌜ group < length (now begins) ⌝ }
+fn open(table: &mut [u16], states: &mut [u16], room: usize, group: u16, arrow: Arrow, at: u16)
+    requires table { ⌜ (1026 + 4 * room ≤ length (now table)) × (group < room) ⌝ }
+    requires states { ⌜ group < length (now states) ⌝ }
     ensures states { λ _. ⌜ now (states .exit) ≡ set (now (states .entry)) group (arrow .from) ⌝ }
-    ensures moves { λ _. ⌜ now (moves .exit) ≡ set (now (moves .entry)) group (arrow .action) ⌝ }
-    ensures begins { λ _. ⌜ now (begins .exit) ≡ set (now (begins .entry)) group at ⌝ }
+    ensures table { λ _. ⌜ now (table .exit)
+        ≡ set (set (now (table .entry)) (1026 + room + group) (arrow .action)) (1025 + group) at ⌝ }
 {
     let g = group as usize;
     states[g] = arrow.from;
-    moves[g] = arrow.action;
-    begins[g] = at;
+    table[1026 + room + g] = arrow.action;
+    table[1025 + g] = at;
 }
 
 // Writes an end and the group that it is of.
-fn append(ends: &mut [u16], owners: &mut [u16], at: u16, to: u16, owner: u16)
-    requires end { ⌜ at < length (now ends) ⌝ }
-    requires owner { ⌜ at < length (now owners) ⌝ }
-    ensures ends { λ _. ⌜ now (ends .exit) ≡ set (now (ends .entry)) at to ⌝ }
-    ensures owners { λ _. ⌜ now (owners .exit) ≡ set (now (owners .entry)) at owner ⌝ }
+fn append(table: &mut [u16], room: usize, at: u16, to: u16, owner: u16)
+    requires { ⌜ (1026 + 4 * room ≤ length (now table)) × (at < room) ⌝ }
+    ensures { λ _. ⌜ now (table .exit)
+        ≡ set (set (now (table .entry)) (1026 + 2 * room + at) to) (1026 + 3 * room + at) owner ⌝ }
 {
     let a = at as usize;
-    ends[a] = to;
-    owners[a] = owner;
+    table[1026 + 2 * room + a] = to;
+    table[1026 + 3 * room + a] = owner;
 }
 
 // Adds to the number that stands at a place.
@@ -86,21 +76,17 @@ fn add(first: &mut [u16], at: u16, more: u16)
 pub(crate) fn lay(
     plant: &[u8],
     mask: u32,
-    first: &mut [u16],
+    table: &mut [u16],
     states: &mut [u16],
-    moves: &mut [u16],
-    begins: &mut [u16],
-    ends: &mut [u16],
-    owners: &mut [u16],
+    room: usize,
 ) -> Loaded
     requires head { ⌜ headOk (now plant) ≡ true ⌝ }
-    requires room { ⌜ roomy (now first) (now states) (now moves) (now begins) (now ends) (now owners) ≡ true ⌝ }
-    requires clear { ⌜ take (word 0 (now plant)) (now first) ≡ replicate (word 0 (now plant)) 0 ⌝ }
+    requires room { ⌜ Room (word 3 (now plant)) room (now table) (now states) ⌝ }
+    requires clear { ⌜ take (word 0 (now plant)) (now table) ≡ replicate (word 0 (now plant)) 0 ⌝ }
     ensures fits { λ r. ⌜ r .fits ≡ arrowsFine (plantOf (now (plant .entry))) ⌝ }
     ensures refused { λ r. ⌜ (r .fits ≡ false → (r .groups ≡ 0) × (r .arrows ≡ 0)) ⌝ }
-    ensures laid { λ r. ⌜ (r .fits ≡ true → Laid (plantOf (now (plant .entry))) mask (r .groups) (r .arrows)
-        (now (first .exit)) (now (states .exit)) (now (moves .exit)) (now (begins .exit)) (now (ends .exit))
-        (now (owners .exit))) ⌝ }
+    ensures laid { λ r. ⌜ (r .fits ≡ true → LaidIn (plantOf (now (plant .entry))) mask (r .groups) (r .arrows) room
+        (now (table .exit)) (now (states .exit))) ⌝ }
 {
     let count = number(plant, 3);
     let limit = number(plant, 0);
@@ -121,9 +107,9 @@ pub(crate) fn lay(
         }
         let on = serves(mask, arrow.action);
         let new = opens(arrow, least, on);
-        open(states, moves, begins, groups, arrow, arrows);
-        append(ends, owners, arrows, arrow.to, groups - (on - new));
-        add(first, arrow.from, new);
+        add(table, arrow.from, new);
+        open(table, states, room, groups, arrow, arrows);
+        append(table, room, arrows, arrow.to, groups - (on - new));
         groups += new;
         arrows += on;
         least = next;

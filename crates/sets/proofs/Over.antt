@@ -1,6 +1,6 @@
 -- Numbers written over the first of a list, and stored one after another from a place on. Assumes nothing.
 use mathlib.Core.Path.{_≡_, refl, sym, ap, _∙_}
-use mathlib.Core.List.{List, [], _∷_, _++_, append-assoc}
+use mathlib.Core.List.{List, [], _∷_, _++_}
 use Prim.Native.Nat.{ℕ, suc, _+_, _-_, _≤_, _<_}
 use native.Mathlib.Nat.{add-zero, zero-add}
 use native.Mathlib.Numerals.{add-one}
@@ -57,13 +57,6 @@ over-more xs ys old h =
     let fits : length xs + length ys ≤ length (over xs old) = rw over-length h in
     sets-eq ys (over xs old) (length xs) fits
     ∙ rw (take-append-seam xs, drop-append-add xs, drop-drop, length-append)
-
--- numbers that replace those past the ones written
-pub over-after : (xs ys old : List ℕ) {new : List ℕ} → new ≡ over xs old
-    → take (length xs) new ++ (ys ++ drop (length xs + length ys) new) ≡ over (xs ++ ys) old
-unfolding over
-over-after xs ys old e =
-    rw (e, take-append-seam xs, drop-append-add xs, drop-drop, length-append, append-assoc)
 
 -- stored after others
 pub sets-append : (l : List ℕ) (at : ℕ) (xs ys : List ℕ)

@@ -2,21 +2,26 @@
 use mathlib.Core.Path.{_≡_, refl, sym, ap, _∙_}
 use mathlib.Core.Logic.{⊎-elim}
 use mathlib.Core.Bool.{Bool, true, false, _&&_, _||_, not}
-use mathlib.Core.List.{List}
+use mathlib.Core.List.{List, [], _∷_}
 use Prim.Native.Nat.{ℕ, _+_, _*_, _≤_}
 use native.Mathlib.Omega.{arith}
 use lib.Dec.{eqb, ltb, leb}
-use lib.ListN.{length}
+use lib.ListN.{length, drop-of-length-le}
 use borrow.Author.Tests.{eqb-true, le-leb, lt-leb, ltb-true, ltb-false}
-use Rattle.statements.specs.Sets.{pick}
+use Rattle.statements.specs.Sets.{pick, isIn}
 use Rattle.statements.specs.Plants.{Plant, plantOf, plantFault}
 use Rattle.statements.specs.Kept.{keptWithin}
 use Rattle.statements.specs.Books.{bookLong}
-use Rattle.sets.proofs.Tests.{decided, and-true, and-left, and-none}
+use Rattle.sets.proofs.Tests.{decided, and-true, and-none}
+use Rattle.sets.proofs.Members.{isIn-here, isIn-none}
 use Rattle.sets.proofs.Iterate.{sifted-few}
-use Rattle.kept.proofs.Kept.{kept-sifted}
+use Rattle.kept.proofs.Kept.{kept-sifted, kept-within}
 use Rattle.decoding.proofs.Faults.{states-few}
 use Rattle.arrays.specs.Lists.{among, rising}
+use Rattle.layout.specs.Layout.{tableRoom}
+use Rattle.game.specs.Packed.{placesIn}
+use Rattle.graph.specs.Packed.{roomyPack}
+use Rattle.solve.specs.Graphed.{Wide}
 use Rattle.solve.specs.Rows.{rowSize, rowsLong, rowsOver, solvable, solvedCount, solvedRows}
 
 -- how many bytes a book has: those of the header and of the rows
@@ -63,10 +68,59 @@ module _ (s : List ℕ) (mask : ℕ) (start out : List ℕ) where
       → (r ≡ solvedCount s mask start out) × (new ≡ solvedRows s mask start out)
   done-solved e number rows = let answer = solved e in (number ∙ answer .0, rows ∙ answer .1)
 
--- a plant whose arrays are built is accepted
-pub built-accepted : (s : List ℕ) (a b : ℕ) {fits : Bool}
-    → fits ≡ (eqb (plantFault s) 0 && (leb 25602 a && leb 18433 b)) → fits ≡ true → plantFault s ≡ 0
-built-accepted s a b e fine = eqb-true (plantFault s) 0 (and-left (eqb (plantFault s) 0) _ (sym e ∙ fine))
+-- arrays of these lengths have room for a plant with few arrows
+pub wide-small : (p : Plant) → length (p .arrows) ≤ 2048 → Wide p 9218 6145
+unfolding tableRoom placesIn
+wide-small p few =
+    record {
+      table-long = omega arith;
+      table-room = omega (arith, few);
+      graph-long = omega arith;
+      graph-room = omega (arith, few);
+      graph-few = omega arith;
+    }
+
+-- and of these for any
+pub wide-large : (p : Plant) → length (p .arrows) ≤ 8192 → Wide p 33794 18433
+unfolding tableRoom placesIn
+wide-large p few =
+    record {
+      table-long = omega arith;
+      table-room = omega (arith, few);
+      graph-long = omega arith;
+      graph-room = omega (arith, few);
+      graph-few = omega arith;
+    }
+
+-- where there is room for every accepted plant, the arrays are built just if the plant is accepted
+pub built : (s table graph : List ℕ) {fits : Bool}
+    → fits ≡ (eqb (plantFault s) 0 && roomyPack (plantOf s) table graph)
+    → (plantFault s ≡ 0 → Wide (plantOf s) (length table) (length graph)) → fits ≡ eqb (plantFault s) 0
+unfolding roomyPack
+built s table graph is wide =
+    ⊎-elim
+    (λ t. let w = wide (eqb-true _ _ t) in
+    is ∙ rw t
+    (and-true (le-leb 1026 (length table) (w .table-long))
+    (and-true (le-leb (length (plantOf s .arrows)) (tableRoom (length table)) (w .table-room))
+    (and-true (le-leb 2049 (length graph) (w .graph-long))
+    (le-leb (length (plantOf s .arrows)) (placesIn (length graph)) (w .graph-room))))))
+    (λ f. is ∙ rw f)
+    (decided (eqb (plantFault s) 0))
+
+-- a start with no state
+pub nothing : (xs : List ℕ) → length xs ≡ 0 → xs ≡ []
+nothing xs e = drop-of-length-le xs {i = 0} (omega (arith, e))
+
+no-members : (xs : List ℕ) → ((x : ℕ) → isIn x xs ≡ true → ⊥) → xs ≡ []
+no-members [] h = refl
+no-members (x ∷ xs) h = absurd (h x (isIn-here x xs))
+
+-- keeps none
+pub none-kept : (p : Plant) (mask : ℕ) (start : List ℕ) → start ≡ [] → keptWithin p mask (among start) ≡ []
+unfolding among
+none-kept p mask start e =
+    no-members (keptWithin p mask (among start)) (λ x m. isIn-none x (rw e at (kept-within p mask (among start) x m .1)))
 
 -- at most 1024 states are kept
 pub done-few : (s : List ℕ) (mask : ℕ) (start : List ℕ) → plantFault s ≡ 0
@@ -90,10 +144,14 @@ module _ (s start out : List ℕ) (states long : ℕ) (es : states ≡ plantOf s
   short-unsolvable e =
       room-solvable ∙ ap (λ (b : Bool). eqb (plantFault s) 0 && not b) e ∙ and-none (eqb (plantFault s) 0) false refl
 
-  -- none does: it can work where the arrays are built
-  pub built-solvable : {fits : Bool} → not rises || ltb (length out) long ≡ false → (a b : ℕ) → 25602 ≤ a → 18433 ≤ b
-      → fits ≡ (eqb (plantFault s) 0 && (leb 25602 a && leb 18433 b)) → solvable s start out ≡ fits
-  built-solvable e a b ha hb is =
-      room-solvable ∙ ap (λ (c : Bool). eqb (plantFault s) 0 && not c) e
-      ∙ ap (λ (c : Bool). eqb (plantFault s) 0 && c) (sym (and-true (le-leb 25602 a ha) (le-leb 18433 b hb)))
-      ∙ sym is
+and-all : (a : Bool) → (a && true) ≡ a
+and-all true = refl
+and-all false = refl
+
+-- with a start that rises, and room for the rows, the solver can work just if the plant is accepted
+pub fine-solvable : (s start out : List ℕ) → rising 0 (plantOf s .states) start ≡ true
+    → 16 + 2 * rowsLong (plantOf s) ≤ length out → solvable s start out ≡ eqb (plantFault s) 0
+unfolding solvable
+fine-solvable s start out rises room =
+    ap (λ (b : Bool). eqb (plantFault s) 0 && b) (and-true rises (le-leb (16 + 2 * rowsLong (plantOf s)) (length out) room))
+    ∙ and-all (eqb (plantFault s) 0)

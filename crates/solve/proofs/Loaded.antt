@@ -2,7 +2,7 @@
 use mathlib.Core.Path.{_≡_, refl, sym, ap, ap₂, _∙_}
 use mathlib.Core.Bool.{Bool, true, false}
 use mathlib.Core.List.{List}
-use Prim.Native.Nat.{ℕ, _+_, _*_, _≤_, _<_}
+use Prim.Native.Nat.{ℕ, _+_, _-_, _*_, _≤_, _<_}
 use native.Mathlib.Omega.{arith}
 use lib.ListN.{length, getD, drop, replicate}
 use lib.Seq.{getD-take, getD-drop}
@@ -13,13 +13,14 @@ use Rattle.sets.proofs.Tests.{not-both}
 use Rattle.sets.proofs.Members.{Sifted}
 use Rattle.sets.proofs.Iterate.{sifted-below}
 use Rattle.decoding.proofs.Faults.{PlantOk, plant-ok}
-use Rattle.layout.specs.Layout.{groupStates, groupEnds, Front}
+use Rattle.layout.specs.Layout.{tableRoom, groupStates, groupEnds, Front}
+use Rattle.game.specs.Packed.{placesIn}
 use Rattle.graph.specs.Packed.{Packed}
 use Rattle.solve.specs.declared.rows.Frame.{Frame}
 use Rattle.solve.specs.Reached.{goes}
 use Rattle.solve.specs.Given.{Given}
 use Rattle.solve.specs.Rows.{rowSize, rowsLong}
-use Rattle.solve.specs.Graphed.{Graphed, Exits}
+use Rattle.solve.specs.Graphed.{Graphed, Exits, labelAt}
 use Rattle.solve.proofs.Labels.{label-low}
 use Rattle.solve.proofs.Plain.{no-move}
 
@@ -74,7 +75,8 @@ no-mark l false e = omega arith
 module _ (s : List ℕ) (fine : plantFault s ≡ 0) (mask : ℕ) (table graph : List ℕ)
     (packed : Packed (plantOf s) mask table graph) where
   -- the table
-  pub loaded-given : 25602 ≤ length table → {none : ℕ} → none ≡ plantOf s .moves → Given s mask table none
+  pub loaded-given : 1026 ≤ length table → {none : ℕ} → none ≡ plantOf s .moves → Given s mask table none
+  unfolding tableRoom
   loaded-given long n =
       record {
         accepted = fine;
@@ -92,14 +94,15 @@ module _ (s : List ℕ) (fine : plantFault s ≡ 0) (mask : ℕ) (table graph : 
   ok = plant-ok s fine
 
   -- the labels
-  label-is : (x : ℕ) → x < plantOf s .states → getD graph (17409 + x) 0 ≡ getD (plantOf s .labels) x 0
+  label-is : (x : ℕ) → x < plantOf s .states → getD graph (labelAt graph x) 0 ≡ getD (plantOf s .labels) x 0
   label-is x h =
-      front-at (plantOf s .labels) graph 17409 x (packed .labels-is) (omega (arith, ok .labels-long))
+      front-at (plantOf s .labels) graph (length graph - 1024) x (packed .labels-is) (omega (arith, ok .labels-long))
 
   -- the game
-  pub loaded-graphed : 18433 ≤ length graph → {groups positions : ℕ} → groups ≡ length (groupStates (plantOf s) mask)
+  pub loaded-graphed : 2049 ≤ length graph → length (plantOf s .arrows) ≤ placesIn (length graph)
+      → placesIn (length graph) ≤ 8192 → {groups positions : ℕ} → groups ≡ length (groupStates (plantOf s) mask)
       → positions ≡ length (groupEnds (plantOf s) mask) → Graphed (plantOf s) mask groups positions graph
-  loaded-graphed long eg ep =
+  loaded-graphed long room few eg ep =
       record {
         groups-are = eg;
         positions-are = ep;
@@ -108,6 +111,8 @@ module _ (s : List ℕ) (fine : plantFault s ≡ 0) (mask : ℕ) (table graph : 
         starts-is = packed .starts-is;
         labels-are = λ x h. omega (arith, label-is x h, label-low (plantOf s) ok x);
         long = long;
+        room = room;
+        few = few;
       }
 
   -- no state leaves it

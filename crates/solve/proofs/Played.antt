@@ -26,10 +26,11 @@ use Rattle.layout.specs.Layout.{groupStates, groupEnds, Front}
 use Rattle.game.specs.Walked.{canEnter, ordered, allBelow}
 use Rattle.game.specs.Game.{Can, grownIn, aims, reachedIn, attracted, attractedAll, heldAfter, stepsTo, stepsOf}
 use Rattle.game.specs.Packed.{part, groupsIn, revIn, startsIn, labelsIn, goalOf, overAt, canIn, roomyFor, hypergraph}
-use Rattle.game.specs.Packed.{playable, heldIn, waitsIn}
+use Rattle.game.specs.Packed.{placesIn, playable, heldIn, waitsIn}
 use Rattle.arrays.proofs.Ordered.{filter-rising}
 use Rattle.game.proofs.Alike.{held-within, held-alike, steps-alike}
-use Rattle.graph.proofs.Links.{plantStarts, plantRev, links-starts, links-ends, links-groups, links-long, links-ordered}
+use Rattle.graph.proofs.Groups.{groups-few, ends-few}
+use Rattle.graph.proofs.Links.{plantStarts, plantRev, links-starts, links-long, links-ordered}
 use Rattle.graph.proofs.Links.{links-rev-below, links-states-below, links-all, links-same}
 use Rattle.solve.specs.Reached.{goes, within, stepOf, reached}
 use Rattle.solve.specs.Rows.{keptFrom, Columns}
@@ -92,12 +93,12 @@ module _ (p : Plant) (mask : ℕ) (ok : PlantOk p) (few : length (p .arrows) ≤
 
   rev-is : revIn graph positions ≡ plantRev p mask
   unfolding revIn
-  rev-is = part-front 8192 positions (plantRev p mask) graph (g .positions-are ∙ sym (links-long p mask ok)) (g .rev-is)
+  rev-is = part-front (placesIn (length graph)) positions (plantRev p mask) graph (g .positions-are ∙ sym (links-long p mask ok)) (g .rev-is)
 
   starts-is : startsIn graph (p .states) ≡ plantStarts p mask
   unfolding startsIn
   starts-is =
-      part-front 16384 (p .states + 1) (plantStarts p mask) graph (add-one (p .states) ∙ sym (links-starts p mask))
+      part-front (length graph - 2049) (p .states + 1) (plantStarts p mask) graph (add-one (p .states) ∙ sym (links-starts p mask))
       (g .starts-is)
 
   -- its states go on as those of the plant
@@ -129,11 +130,14 @@ module _ (p : Plant) (mask : ℕ) (ok : PlantOk p) (few : length (p .arrows) ≤
         let product : p .goals * p .states ≤ 8192 = product-few (p .goals) (p .states) (sizes .goals-most) (sizes .states-most) in
         and-true
         (and-true (le-leb (p .states) 1024 (sizes .states-most))
-        (and-true (le-leb groups 8192 (omega (arith, g .groups-are, links-groups p mask few)))
-        (and-true (le-leb positions 8192 (omega (arith, g .positions-are, links-ends p mask few)))
+        (and-true (le-leb 2049 (length graph) (g .long))
+        (and-true (le-leb (placesIn (length graph)) 8192 (g .few))
+        (and-true (le-leb groups (placesIn (length graph))
+        (omega (arith, g .groups-are, groups-few p mask, ends-few p mask, g .room)))
+        (and-true (le-leb positions (placesIn (length graph)) (omega (arith, g .positions-are, ends-few p mask, g .room)))
         (and-true (le-leb 1 (p .goals) (sizes .goals-least))
         (and-true (le-leb (p .goals) 8 (sizes .goals-most))
-        (and-true (le-leb 18433 (length graph) (g .long)) (le-leb (p .goals * p .states) room (omega arith))))))))
+        (le-leb (p .goals * p .states) room (omega arith)))))))))
         (and-true hyper (ap (rising 0 (p .states)) set ∙ filter-rising (λ y. isIn y first) (p .states)))
       where
         product-few : (a b : ℕ) → a ≤ 8 → b ≤ 1024 → a * b ≤ 8192
@@ -145,7 +149,7 @@ module _ (p : Plant) (mask : ℕ) (ok : PlantOk p) (few : length (p .arrows) ≤
         → getD labels x 0 ≡ getD (p .labels) x 0 + pick (goes p leave x) 32768 0
     unfolding labelsIn
     label-at x m =
-        part-at 17409 (p .states) graph x (sifted-below (p .states) first set x m) ∙ exits x m
+        part-at (length graph - 1024) (p .states) graph x (sifted-below (p .states) first set x m) ∙ exits x m
 
     -- a run is over where a state leaves, and the goals are the plant's
     over-is : (x : ℕ) → isIn x first ≡ true → overAt labels x ≡ goes p leave x

@@ -16,7 +16,7 @@ use Rattle.sets.proofs.Members.{isIn-here, isIn-there, filter-test, numbers-in}
 use Rattle.sets.proofs.First.{first-yes, first-no}
 use Rattle.decoding.proofs.Faults.{PlantOk, arrow-range}
 use Rattle.layout.specs.Layout.{groupMoves, groupEnds, groupBegins, firstGroups}
-use Rattle.solve.specs.Tabled.{Tabled}
+use Rattle.solve.specs.Tabled.{Tabled, movesAt, endsAt}
 use Rattle.solve.specs.Given.{below}
 use Rattle.solve.proofs.Groups as groups
 use Rattle.solve.proofs.Groups.{theMove, ahead, front-at, front-in}
@@ -159,16 +159,16 @@ module _ {p : Plant} {mask : ℕ} {table waits : List ℕ} {x : ℕ} (q : Sought
           rw (sym (d .here)) at (groups.group-in p mask x (d .move) (d .is-available) (q .here) move-below)
 
       -- so its move stands in the table
-      pub ends-move-in : 9218 + g < length table
-      ends-move-in = front-in 9218 (groupMoves p mask) table (q .table-is .moves-is) g group-in
+      pub ends-move-in : movesAt table + g < length table
+      ends-move-in = front-in (movesAt table) (groupMoves p mask) table (q .table-is .moves-is) g group-in
 
       -- past the last end: the move goes into the set
-      pub ends-all : stop ≤ at → moveInto p mask ys x ≡ getD table (9218 + g) 0
+      pub ends-all : stop ≤ at → moveInto p mask ys x ≡ getD table (movesAt table + g) 0
       unfolding allIn
       ends-all h =
           let none : d .todo ≡ [] = drop-of-length-le (d .todo) {i = 0} (omega (arith, d .stop-is)) in
           let good : goesInto p mask ys x (d .move) ≡ true = d .into ∙ ap (λ (zs : List ℕ). allIn zs ys) none in
-          let read = front-at 9218 (groupMoves p mask) table (q .table-is .moves-is) g group-in
+          let read = front-at (movesAt table) (groupMoves p mask) table (q .table-is .moves-is) g group-in
           ∙ rw (sym (d .here)) at (groups.group-move p mask x (d .move) (d .is-available) (q .here) move-below) in
           d .same ∙ first-yes (d .left) (d .move) (goesInto p mask ys x) good ∙ sym read
 
@@ -185,17 +185,17 @@ module _ {p : Plant} {mask : ℕ} {table waits : List ℕ} {x : ℕ} (q : Sought
             )
 
         -- it stands in the table
-        pub ends-in : 17410 + at < length table
-        ends-in = front-in 17410 (groupEnds p mask) table (q .table-is .ends-is) at end-in
+        pub ends-in : endsAt table + at < length table
+        ends-in = front-in (endsAt table) (groupEnds p mask) table (q .table-is .ends-is) at end-in
 
         -- the end that is read
         abbrev Next : ℕ
-        Next = getD table (17410 + at) 0
+        Next = getD table (endsAt table + at) 0
 
         -- it is the first of those left, and the others come after it
         split : (d .todo ≡ Next ∷ drop 1 (d .todo)) × (drop (suc at) (groupEnds p mask) ≡ drop 1 (d .todo) ++ d .rest)
         split =
-            let read = front-at 17410 (groupEnds p mask) table (q .table-is .ends-is) at end-in in
+            let read = front-at (endsAt table) (groupEnds p mask) table (q .table-is .ends-is) at end-in in
             let some = drop-cons (d .todo) 0 0 (omega (arith, d .stop-is)) in
             let text : getD (groupEnds p mask) at 0 ∷ drop (suc at) (groupEnds p mask)
             ≡ getD (d .todo) 0 0 ∷ (drop 1 (d .todo) ++ d .rest) =

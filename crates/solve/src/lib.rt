@@ -20,10 +20,11 @@ ghost use lib.ListN.{length};
 ghost use Rattle.statements.specs.Sets.{numbers};
 ghost use Rattle.statements.specs.Plants.{plantOf, plantFault};
 ghost use Rattle.statements.specs.Kept.{keptWithin};
-ghost use Rattle.arrays.specs.Lists.{among};
+ghost use Rattle.arrays.specs.Lists.{among, rising};
 ghost use Rattle.sets.proofs.Members.{Sifted};
 ghost use Rattle.graph.specs.Packed.{Packed};
 ghost use Rattle.layout.specs.Layout.{groupStates, groupEnds};
+ghost use Rattle.solve.specs.Graphed.{Wide};
 ghost use Rattle.solve.specs.Rows.{rowSize, rowsLong, rowsOver, solvedCount, solvedRows};
 
 // The figures of a plant with groups loaded.
@@ -69,7 +70,7 @@ fn solved(
     requires loaded { ⌜ (loaded .groups ≡ length (groupStates (plantOf (now plant)) mask))
         × (loaded .arrows ≡ length (groupEnds (plantOf (now plant)) mask)) ⌝ }
     requires packed { ⌜ Packed (plantOf (now plant)) mask (now table) (now graph)
-        × ((25602 ≤ length (now table)) × (18433 ≤ length (now graph))) ⌝ }
+        × Wide (plantOf (now plant)) (length (now table)) (length (now graph)) ⌝ }
     requires set { ⌜ Sifted (numbers (plantOf (now plant) .states) 0) (now start) ⌝ }
     requires room { ⌜ 16 + 2 * rowsLong (plantOf (now plant)) ≤ length (now out) ⌝ }
     ensures count { λ r. ⌜ r ≡ length (keptWithin (plantOf (now (plant .entry))) mask (among (now (start .entry)))) ⌝ }
@@ -78,10 +79,64 @@ fn solved(
 {
     let frame = frame_of(plant, mask, loaded);
     blank(plant, frame.states * frame.size, out);
+    if start.len() == 0 {
+        return 0;
+    }
     if settles(plant) {
         return by_stages(plant, frame, table, graph, start, out);
     }
     at_once(plant, frame, table, graph, start, out)
+}
+
+// The rows, by way of a table and a graph with room for the plant's arrows.
+fn within(
+    plant: &[u8],
+    mask: u32,
+    start: &[u16],
+    table: &mut [u16],
+    graph: &mut [u16],
+    out: &mut [u8],
+) -> u32
+    requires set { ⌜ rising 0 (plantOf (now plant) .states) (now start) ≡ true ⌝ }
+    requires room { ⌜ 16 + 2 * rowsLong (plantOf (now plant)) ≤ length (now out) ⌝ }
+    requires wide { ⌜ (plantFault (now plant) ≡ 0
+        → Wide (plantOf (now plant)) (length (now table)) (length (now graph))) ⌝ }
+    ensures count { λ r. ⌜ r ≡ solvedCount (now (plant .entry)) mask (now (start .entry)) (now (out .entry)) ⌝ }
+    ensures rows { λ _. ⌜ now (out .exit)
+        ≡ solvedRows (now (plant .entry)) mask (now (start .entry)) (now (out .entry)) ⌝ }
+{
+    let loaded = build(plant, mask, table, graph);
+    if !loaded.fits {
+        return 65535;
+    }
+    solved(plant, mask, loaded, table, graph, start, out) as u32
+}
+
+// The rows of a plant with at most 2,048 arrows. What its arrays save in filling shows where the rest takes little time.
+fn small(plant: &[u8], mask: u32, start: &[u16], out: &mut [u8]) -> u32
+    requires few { ⌜ length (plantOf (now plant) .arrows) ≤ 2048 ⌝ }
+    requires set { ⌜ rising 0 (plantOf (now plant) .states) (now start) ≡ true ⌝ }
+    requires room { ⌜ 16 + 2 * rowsLong (plantOf (now plant)) ≤ length (now out) ⌝ }
+    ensures count { λ r. ⌜ r ≡ solvedCount (now (plant .entry)) mask (now (start .entry)) (now (out .entry)) ⌝ }
+    ensures rows { λ _. ⌜ now (out .exit)
+        ≡ solvedRows (now (plant .entry)) mask (now (start .entry)) (now (out .entry)) ⌝ }
+{
+    let mut table = [0u16; 9218];
+    let mut graph = [0u16; 6145];
+    within(plant, mask, start, &mut table, &mut graph, out)
+}
+
+// The rows of any plant.
+fn large(plant: &[u8], mask: u32, start: &[u16], out: &mut [u8]) -> u32
+    requires set { ⌜ rising 0 (plantOf (now plant) .states) (now start) ≡ true ⌝ }
+    requires room { ⌜ 16 + 2 * rowsLong (plantOf (now plant)) ≤ length (now out) ⌝ }
+    ensures count { λ r. ⌜ r ≡ solvedCount (now (plant .entry)) mask (now (start .entry)) (now (out .entry)) ⌝ }
+    ensures rows { λ _. ⌜ now (out .exit)
+        ≡ solvedRows (now (plant .entry)) mask (now (start .entry)) (now (out .entry)) ⌝ }
+{
+    let mut table = [0u16; 33794];
+    let mut graph = [0u16; 18433];
+    within(plant, mask, start, &mut table, &mut graph, out)
 }
 
 // Writes the rows of the book for a plant, the moves in service and a start, a rising list of states, behind the header
@@ -96,11 +151,8 @@ pub fn solve(plant: &[u8], mask: u32, start: &[u16], out: &mut [u8]) -> u32
     if !rises(start, states) | (out.len() < book_long(plant)) {
         return 65535;
     }
-    let mut table = [0u16; 25602];
-    let mut graph = [0u16; 18433];
-    let loaded = build(plant, mask, &mut table, &mut graph);
-    if !loaded.fits {
-        return 65535;
+    if number(plant, 3) <= 2048 {
+        return small(plant, mask, start, out);
     }
-    solved(plant, mask, loaded, &table, &mut graph, start, out) as u32
+    large(plant, mask, start, out)
 }

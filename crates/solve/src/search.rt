@@ -26,6 +26,9 @@ pub(crate) fn search(
         (movesInto (plantOf (now (plant .entry))) mask
         (below (now (waits .entry)) limit (plantOf (now (plant .entry)) .states)) state) ⌝ }
 {
+    let room = (table.len() - 1026) / 4;
+    let moves = 1026 + room;
+    let ends = 1026 + 2 * room;
     let x = state as usize;
     let mut g = table[x] as usize;
     let last = table[x + 1] as usize;
@@ -37,9 +40,9 @@ pub(crate) fn search(
         let stop = table[1026 + g] as usize;
         loop {
             if stop <= at {
-                break 'moves table[9218 + g];
+                break 'moves table[moves + g];
             }
-            let end = table[17410 + at] as usize;
+            let end = table[ends + at] as usize;
             if limit <= waits[end] {
                 g += 1;
                 continue 'moves;

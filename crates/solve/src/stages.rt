@@ -58,6 +58,7 @@ fn admit(
         (now (graph .exit)) ⌝ }
 {
     let none = frame.none;
+    let labels = graph.len() - 1024;
     let mut k = 0;
     let mut count = 0;
     while k < start.len() {
@@ -65,7 +66,7 @@ fn admit(
         let x = state as usize;
         let away = search(plant, frame.mask, table, none, stage, 65535, state);
         leave[x] = away;
-        graph[17409 + x] = marked(graph[17409 + x], away < none);
+        graph[labels + x] = marked(graph[labels + x], away < none);
         if is_settled(plant, state as u32) | (away < none) {
             all[count] = state;
             count += 1;

@@ -36,19 +36,10 @@ module _ (s start o : List ℕ) where
   writable-fine t = eqb-true _ _ (and-left (eqb (plantFault s) 0) _ t)
 
   -- and there is room
-  room-of : writable s start o ≡ true → bookLong (plantOf s .settles) (plantOf s .states) (plantOf s .goals) ≤ length o
+  pub room-of : writable s start o ≡ true → bookLong (plantOf s .settles) (plantOf s .states) (plantOf s .goals) ≤ length o
   unfolding writable
   room-of t =
       leb-true _ _ (and-right (rising 0 (plantOf s .states) start) _ (and-right (eqb (plantFault s) 0) _ t))
-
-  -- so none can without room
-  pub short-unwritable : length o < bookLong (plantOf s .settles) (plantOf s .states) (plantOf s .goals)
-      → writable s start o ≡ false
-  short-unwritable h =
-      elim (decided (writable s start o)) [
-        | inl t ↦ absurd (omega (arith, room-of t))
-        | inr t ↦ t
-      ]
 
 -- the length returned is no longer than the buffer
 pub written-fits : (s start o : List ℕ) {long : ℕ} → long ≡ writtenLong s start o → long ≤ length o

@@ -63,16 +63,12 @@ pub fn book(plant: &[u8], mask: u32, start: &[u16], out: &mut [u8]) -> u32
     ensures bytes { λ _. ⌜ now (out .exit) ≡
         writtenBook (now (plant .entry)) mask (now (start .entry)) (now (out .entry)) ⌝ }
 {
-    let long = book_long(plant);
-    if out.len() < long {
-        return 0;
-    }
     let kept = solve(plant, mask, start, out);
     if kept == 65535 {
         return 0;
     }
     head(plant, mask, kept as u16, out);
-    long as u32
+    book_long(plant) as u32
 }
 
 // Lists the states kept in one book and lost in another, rising; returns how many. Where the drop buffer has no room

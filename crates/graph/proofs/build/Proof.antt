@@ -1,222 +1,177 @@
--- `graph::build` meets its contract: with room, and the layout loaded, its lists are packed. Assumes nothing.
-use mathlib.Core.Path.{_≡_, refl, sym, _∙_}
-use mathlib.Core.Bool.{true, _&&_, true≢false}
-use mathlib.Core.List.{List, _++_}
-use Prim.Native.Nat.{ℕ, _≤_}
+-- `graph::build` meets its contract: with room, and the layout loaded, the links are packed. Assumes nothing.
+use mathlib.Core.Path.{_≡_, refl, sym, ap, _∙_}
+use mathlib.Core.Bool.{_&&_, true≢false}
+use mathlib.Core.List.{_++_}
+use Prim.Native.Nat.{_+_, _-_, _*_, _/_, _≤_}
 use native.Mathlib.Omega.{arith}
 use borrow.Author.Needs.{needs}
-use borrow.Author.Tests.{not-true, not-false, leb-true}
 use denote.Ref.{now}
-use lib.Dec.{eqb, leb}
-use lib.ListN.{length, take, drop, replicate, length-replicate}
+use lib.Dec.{eqb}
+use lib.ListN.{length, take, drop}
 use lib.Seq.{length-take-le, length-front}
 use Rattle.statements.specs.Plants.{plantOf, plantFault}
-use Rattle.sets.proofs.Tests.{and-iff, and-none}
-use Rattle.layout.specs.Layout.{groupStates, groupEnds, roomy}
-use Rattle.graph.proofs.Building.{roomy-yes, and-same, accepted, counts-few, tabulable, packed}
+use Rattle.sets.proofs.Tests.{and-none, and-right}
+use Rattle.layout.specs.Layout.{groupEnds, tableRoom}
+use Rattle.game.specs.Packed.{part, placesIn}
+use Rattle.graph.specs.Packed.{roomyPack}
+use Rattle.graph.proofs.Building.{room-same, room-none, parts-fit, accepted, counts-few, linkable, packed}
 use Rattle.graph.proofs.Packing.{picked}
 use Rattle.graph.proofs.build.Statement.{statement}
 use Rattle.graph.proofs.build.Tie as tie
 
--- the room is too short
+-- the graph is too short
 returns : tie.Need-returns
 returns c =
     let a = c .before .before .before .before .args in
-    let test = leb 25602 (length (now (a .table))) && leb 18433 (length (now (a .graph))) in (
-      sym (and-none (eqb (plantFault (now (a .plant))) 0) test (not-true test (c .if1 .taken))),
+    let none = room-none (plantOf (now (a .plant))) (now (a .table)) (now (a .graph)) (c .if1 .taken) in (
+      sym (and-none (eqb (plantFault (now (a .plant))) 0) _ none),
       (refl, (refl, λ e. absurd (true≢false (sym e)))),
     )
 
--- the function's entry, and the room there
+-- the function's entry, and the part for the states of the groups
 abbrev entry : tie.Else1 → tie.Start
 entry c = c .before .before .before .before
 
-room : (c : tie.Else1)
-    → (25602 ≤ length (now (entry c .args .table))) × (18433 ≤ length (now (entry c .args .graph)))
-room c =
-    let tests = and-iff _ _ .0 (not-false _ (c .if1 .left)) in
-    (leb-true 25602 _ (tests .0), leb-true 18433 _ (tests .1))
+size : (c : tie.Else1)
+    → let g = now (entry c .args .graph) in
+    length (take ((length g - 2049) / 2) g) ≡ placesIn (length g)
+unfolding placesIn
+size c =
+    let g = now (entry c .args .graph) in
+    length-take-le ((length g - 2049) / 2) g (omega arith)
 
-slice-aggregate-load : tie.Need-slice-aggregate-load
-slice-aggregate-load c = search needs
+sub-places : tie.Need-sub-places
+sub-places c = search needs
 
 slice-relend-prefix-load : tie.Need-slice-relend-prefix-load
-slice-relend-prefix-load c = omega (arith, room (c .before))
+slice-relend-prefix-load c = search needs
 
-slice-aggregate-load-2 : tie.Need-slice-aggregate-load-2
-slice-aggregate-load-2 c =
-    let g = now (entry (c .before .before) .args .graph) in
-    sym (length-take-le 8192 g (omega (arith, room (c .before .before))))
-
-slice-aggregate-load-3 : tie.Need-slice-aggregate-load-3
-slice-aggregate-load-3 c = search needs
-
-slice-aggregate-load-4 : tie.Need-slice-aggregate-load-4
-slice-aggregate-load-4 c = search needs
-
-slice-aggregate-load-5 : tie.Need-slice-aggregate-load-5
-slice-aggregate-load-5 c = search needs
-
-slice-aggregate-load-6 : tie.Need-slice-aggregate-load-6
-slice-aggregate-load-6 c = search needs
+slice-aggregate-load : tie.Need-slice-aggregate-load
+unfolding placesIn
+slice-aggregate-load c = sym (size (c .before .before))
 
 load-requires : tie.Need-load-requires
 load-requires c κs = search needs
 
 -- the state before the layout is loaded
 abbrev opened : tie.After-load → tie.Else1
-opened c = c .before .before .before .before .before .before .before
+opened c = c .before .before .before
 
 -- when it is loaded
 fits : (c : tie.After-load)
     → let a = entry (opened c) .args in
     c .load .result .fits
-    ≡ (eqb (plantFault (now (a .plant))) 0
-    && (leb 25602 (length (now (a .table))) && leb 18433 (length (now (a .graph)))))
+    ≡ (eqb (plantFault (now (a .plant))) 0 && roomyPack (plantOf (now (a .plant))) (now (a .table)) (now (a .graph)))
 fits c =
     let a = entry (opened c) .args in
-    let states = take 8192 (now (a .graph)) in
-    let first : List ℕ = replicate 1025 0 in
-    let most : List ℕ = replicate 8192 0 in
-    let begins : List ℕ = replicate 8193 0 in
-    let test = leb 25602 (length (now (a .table))) && leb 18433 (length (now (a .graph))) in
-    let long = length-replicate {A = ℕ} 8192 0 in
-    c .load .ensures .0
-    ∙ and-same (eqb (plantFault (now (a .plant))) 0) (roomy first states most begins most most) test
-    (roomy-yes first states most begins most most (omega (arith, length-replicate {A = ℕ} 1025 0))
-    (omega (arith, length-take-le 8192 (now (a .graph)) (omega (arith, room (opened c))))) (omega (arith, long))
-    (omega (arith, length-replicate {A = ℕ} 8193 0)) (omega (arith, long)) (omega (arith, long)))
-    (not-false test (opened c .if1 .left))
+    let g = now (a .graph) in
+    let room = opened c .if1 .left in
+    let states = take ((length g - 2049) / 2) g in
+    rw (room-same (plantOf (now (a .plant))) (now (a .table)) g (omega arith) states (size (opened c)))
+    at (c .load .ensures .0)
 
--- the layout that was loaded
-abbrev loaded : tie.Then2 → tie.After-load
-loaded c = c .before .before .before .before .before .before .before .before
-
-abbrev start : tie.After-number → tie.Start
-start c = entry (opened (loaded (c .before)))
-
-fine : (c : tie.After-number) → plantFault (now (start c .args .plant)) ≡ 0
-fine c = accepted _ _ (sym (fits (loaded (c .before))) ∙ c .before .if2 .taken)
-
-groups : (c : tie.After-number)
-    → loaded (c .before) .load .result .groups
-    ≡ length (groupStates (plantOf (now (start c .args .plant))) (start c .args .mask))
-groups c =
-    let l = loaded (c .before) .load in
-    picked (l .result .fits) (l .result .groups) _ 0 (c .before .if2 .taken) (l .ensures .1 .0)
-
-arrows : (c : tie.After-number)
-    → loaded (c .before) .load .result .arrows
-    ≡ length (groupEnds (plantOf (now (start c .args .plant))) (start c .args .mask))
-arrows c =
-    let l = loaded (c .before) .load in
-    picked (l .result .fits) (l .result .arrows) _ 0 (c .before .if2 .taken) (l .ensures .1 .1 .0)
-
-few : (c : tie.After-number)
-    → let l = loaded (c .before) .load .result in
-    (c .number .result ≤ 1024) × (l .groups ≤ 8192) × (l .arrows ≤ 8192)
-few c =
-    let l = loaded (c .before) .load .result in
-    counts-few (now (start c .args .plant)) (start c .args .mask) (c .number .result) (l .groups) (l .arrows) (fine c)
-    (c .number .ensures) (groups c) (arrows c)
-
--- the arrays are as long as they were
-long : (c : tie.After-load)
-    → let l = c .load .last .1 .1 in
-    (1025 ≤ length (l .0)) × (8192 ≤ length (l .1 .1 .0)) × (8193 ≤ length (l .1 .1 .1 .0))
-    × (8192 ≤ length (l .1 .1 .1 .1 .0)) × (8192 ≤ length (l .1 .1 .1 .1 .1 .0))
-long c =
-    let l = c .load .last .1 .1 in
-    let k = c .load .kept .1 .1 in
-    let most : List ℕ = replicate 8192 0 in
-    let first : length (l .0) ≡ length (replicate {A = ℕ} 1025 0) = k .0 in
-    let moves : length (l .1 .1 .0) ≡ length most = k .1 .1 .0 in
-    let begins : length (l .1 .1 .1 .0) ≡ length (replicate {A = ℕ} 8193 0) = k .1 .1 .1 .0 in
-    let ends : length (l .1 .1 .1 .1 .0) ≡ length most = k .1 .1 .1 .1 .0 in
-    let owners : length (l .1 .1 .1 .1 .1 .0) ≡ length most = k .1 .1 .1 .1 .1 .0 in
-    let size = length-replicate {A = ℕ} 8192 0 in
-    omega (arith, length-replicate {A = ℕ} 1025 0, length-replicate {A = ℕ} 8193 0)
-
--- the graph then: the states of the groups over the front
+-- the graph then: the states of the groups over its front
 whole : (c : tie.After-load)
     → let g = now (entry (opened c) .args .graph) in
-    length (c .load .last .1 .1 .1 .0 ++ drop 8192 g) ≡ length g
+    length (c .load .last .1 .1 .1 .0 ++ drop ((length g - 2049) / 2) g) ≡ length g
 whole c =
-    length-front (now (entry (opened c) .args .graph)) (c .load .last .1 .1 .1 .0) 8192 (c .load .kept .1 .1 .1 .0)
+    let g = now (entry (opened c) .args .graph) in
+    length-front g (c .load .last .1 .1 .1 .0) ((length g - 2049) / 2) (c .load .kept .1 .1 .1 .0)
 
-number-requires : tie.Need-number-requires
-number-requires c κs = search needs
+-- the layout that was loaded, and the function's entry
+abbrev loaded : tie.After-table-room → tie.After-load
+loaded c = c .before .before .before .before .before .before
 
-cast-n : tie.Need-cast-n
-cast-n c = search needs
+abbrev start : tie.After-table-room → tie.Start
+start c = entry (opened (loaded c))
 
-cast-g : tie.Need-cast-g
-cast-g c = search needs
+fine : (c : tie.After-table-room) → plantFault (now (start c .args .plant)) ≡ 0
+fine c = accepted _ _ (sym (fits (loaded c)) ∙ c .before .if2 .taken)
 
-cast-a : tie.Need-cast-a
-cast-a c = search needs
+arrows : (c : tie.After-table-room)
+    → loaded c .load .result .arrows
+    ≡ length (groupEnds (plantOf (now (start c .args .plant))) (start c .args .mask))
+arrows c =
+    let l = loaded c .load in
+    picked (l .result .fits) (l .result .arrows) _ 0 (c .before .if2 .taken) (l .ensures .1 .1 .0)
 
-slice-aggregate-tabulate : tie.Need-slice-aggregate-tabulate
-slice-aggregate-tabulate c = search needs
+-- its parts have places for the ends
+parts : (c : tie.After-table-room)
+    → let h = c .table-room .result in
+    let a = loaded c .load .result .arrows in
+    (1026 + 3 * h + a ≤ length (loaded c .load .last .1 .1 .0)) × (a ≤ h)
+    × (a ≤ placesIn (length (now (start c .args .graph))))
+parts c =
+    let s = start c .args in
+    let l = loaded c .load in
+    let p = plantOf (now (s .plant)) in
+    let room =
+    and-right (eqb (plantFault (now (s .plant))) 0) _ (sym (fits (loaded c)) ∙ c .before .if2 .taken) in
+    let few = counts-few (now (s .plant)) (s .mask) (l .result .arrows) (fine c) (arrows c) in
+    let same : length (l .last .1 .1 .0) ≡ length (now (s .table)) = l .kept .1 .1 .0 in
+    let fit = parts-fit p (now (s .table)) (now (s .graph)) room (l .result .arrows) (few .2) in
+    omega (arith, c .table-room .ensures, ap tableRoom same)
 
-slice-aggregate-tabulate-2 : tie.Need-slice-aggregate-tabulate-2
-slice-aggregate-tabulate-2 c = search needs
+table-room-requires : tie.Need-table-room-requires
+table-room-requires c κs = search needs
 
-slice-aggregate-tabulate-3 : tie.Need-slice-aggregate-tabulate-3
-slice-aggregate-tabulate-3 c = search needs
+cast-count : tie.Need-cast-count
+cast-count c = search needs
 
-slice-aggregate-tabulate-4 : tie.Need-slice-aggregate-tabulate-4
-slice-aggregate-tabulate-4 c = search needs
+mul-ends : tie.Need-mul-ends
+mul-ends c = omega (arith, parts (c .before))
 
--- the number of states, seen from the packing
-abbrev counted : tie.After-tabulate-arg → tie.After-number
-counted c = c .before .before .before .before .before .before .before
+add-ends : tie.Need-add-ends
+add-ends c = omega (arith, parts (c .before))
 
--- the ends and their owners are in the arrays
-owned : (c : tie.After-number)
-    → let l = loaded (c .before) .load in
-    (l .result .arrows ≤ length (l .last .1 .1 .1 .1 .1 .1 .0))
-    × (l .result .arrows ≤ length (l .last .1 .1 .1 .1 .1 .1 .1 .0))
-owned c = omega (arith, few c .2, long (loaded (c .before)))
+mul-owners : tie.Need-mul-owners
+mul-owners c = omega (arith, parts (c .before))
 
-tabulate-requires : tie.Need-tabulate-requires
-tabulate-requires c κs =
-    let m = counted c in
-    let l = loaded (m .before) in
-    let arrays = l .load .last .1 .1 in
-    let k = long l in
-    tabulable (now (start m .args .plant)) (start m .args .mask) (m .number .result) (l .load .result .groups)
-    (l .load .result .arrows) (fine m) (m .number .ensures) (groups m) (arrows m) (arrays .0) (arrays .1 .0)
-    (arrays .1 .1 .0) (arrays .1 .1 .1 .0) (arrays .1 .1 .1 .1 .0) (arrays .1 .1 .1 .1 .1 .0)
-    (now (start m .args .table)) (k .0) (k .2) (k .1) (k .3) (room (opened l) .0)
+add-owners : tie.Need-add-owners
+add-owners c = omega (arith, parts (c .before))
 
-array-share-prefix-ends : tie.Need-array-share-prefix-ends
-array-share-prefix-ends c = owned (counted (c .before .before .before)) .0
+add-link : tie.Need-add-link
+add-link c = omega (arith, parts (c .before))
 
-slice-aggregate-link : tie.Need-slice-aggregate-link
-slice-aggregate-link c = sym (length-take-le _ _ (owned (counted (c .before .before .before .before)) .0))
+mul-link : tie.Need-mul-link
+mul-link c = omega (arith, parts (c .before))
 
-array-share-prefix-owners : tie.Need-array-share-prefix-owners
-array-share-prefix-owners c = owned (counted (c .before .before .before .before)) .1
+sub-link : tie.Need-sub-link
+sub-link c = search needs
 
-slice-aggregate-link-2 : tie.Need-slice-aggregate-link-2
-slice-aggregate-link-2 c =
-    sym (length-take-le _ _ (owned (counted (c .before .before .before .before .before)) .1))
+part-link-start : tie.Need-part-link-start
+part-link-start c = search needs
 
--- the packing of the table, seen from that of the graph
-abbrev packing : tie.After-link-arg → tie.After-tabulate-arg
-packing c = c .before .before .before .before .before .before
+part-link-end : tie.Need-part-link-end
+part-link-end c = omega (arith, parts (c .before .before))
+
+add-link-2 : tie.Need-add-link-2
+add-link-2 c = omega (arith, parts (c .before .before .before))
+
+mul-link-2 : tie.Need-mul-link-2
+mul-link-2 c = omega (arith, parts (c .before .before .before))
+
+sub-link-2 : tie.Need-sub-link-2
+sub-link-2 c = search needs
+
+part-link-start-2 : tie.Need-part-link-start-2
+part-link-start-2 c = search needs
+
+part-link-end-2 : tie.Need-part-link-end-2
+part-link-end-2 c = omega (arith, parts (c .before .before .before))
 
 link-requires : tie.Need-link-requires
+unfolding part
 link-requires c κs =
-    let m = counted (packing c) in
-    let l = loaded (m .before) in
-    let a = l .load .result .arrows in
-    let ends = length-take-le a (l .load .last .1 .1 .1 .1 .1 .1 .0) (owned m .0) in
-    let owners = length-take-le a (l .load .last .1 .1 .1 .1 .1 .1 .1 .0) (owned m .1) in (
-      (omega (arith, few m .0, m .number .ensures), omega (arith, few m .2, ends)),
-      (omega (arith, ends, owners), omega (arith, whole l, room (opened l))),
-    )
+    let r = c .before .before .before .before .before in
+    let l = loaded r in
+    let s = start r .args in
+    let g = now (s .graph) in
+    let fit = parts r in
+    let room = opened l .if1 .left in
+    linkable (now (s .plant)) (s .mask) (l .load .result .arrows) (r .table-room .result) (l .load .last .1 .1 .0)
+    (fine r) (arrows r) (fit .0) (fit .1) (l .load .last .1 .1 .1 .0 ++ drop ((length g - 2049) / 2) g)
+    (omega (arith, whole l)) (rw (whole l) (fit .2))
 
 same-length : tie.Need-same-length
 same-length c = search needs
@@ -225,25 +180,25 @@ same-length-2 : tie.Need-same-length-2
 same-length-2 c = search needs
 
 returns-2 : tie.Need-returns-2
+unfolding part
 returns-2 c =
     let linked = c .before .before in
-    let tabled = linked .before .before .before .before .before .before in
-    let m = counted (packing (linked .before)) in
-    let l = loaded (m .before) in
-    let arrays = l .load .last .1 .1 in
-    let a = start m .args in (
+    let r = linked .before .before .before .before .before .before in
+    let l = loaded r in
+    let s = start r .args in
+    let g = now (s .graph) in
+    let long : length (linked .link .last .1 .1 .1 .0) ≡ length g = linked .link .kept .1 .1 .1 .0 ∙ whole l in
+    let places = l .load .kept .1 .1 .1 .0 ∙ size (opened l) ∙ ap placesIn (sym long) in (
       fits l,
       (
         l .load .ensures .1 .0,
         (
           l .load .ensures .1 .1 .0,
           λ e.
-              packed (now (a .plant)) (a .mask) (m .number .result) (l .load .result .groups)
-              (l .load .result .arrows) (fine m) (m .number .ensures) (groups m) (arrows m) (arrays .0)
-              (arrays .1 .0) (arrays .1 .1 .0) (arrays .1 .1 .1 .0) (arrays .1 .1 .1 .1 .0)
-              (arrays .1 .1 .1 .1 .1 .0) (tabled .tabulate .last .1 .1 .1 .1 .1 .1 .1 .0)
-              (linked .link .last .1 .1 .1 .0) (drop 8192 (now (a .graph))) (l .load .ensures .1 .1 .1 e)
-              (tabled .tabulate .ensures) (linked .link .ensures),
+              packed (now (s .plant)) (s .mask) (l .load .result .arrows) (r .table-room .result)
+              (l .load .last .1 .1 .0) (arrows r) (r .table-room .ensures) (l .load .last .1 .1 .1 .0)
+              (drop ((length g - 2049) / 2) g) (linked .link .last .1 .1 .1 .0) places (l .load .ensures .1 .1 .1 e)
+              (linked .link .ensures),
         ),
       ),
     )
@@ -251,9 +206,12 @@ returns-2 c =
 same-length-3 : tie.Need-same-length-3
 same-length-3 c = search needs
 
+same-length-4 : tie.Need-same-length-4
+same-length-4 c = search needs
+
 returns-3 : tie.Need-returns-3
 returns-3 c =
-    let l = c .before .before .before .before .before .before .before .before in (
+    let l = c .before .before .before .before .before in (
       fits l,
       (l .load .ensures .1 .0, (l .load .ensures .1 .1 .0, λ e. absurd (true≢false (sym e ∙ c .if2 .left)))),
     )
@@ -263,30 +221,30 @@ build-spec =
     tie.close
     (tie.spec
     returns
-    slice-aggregate-load
+    sub-places
     slice-relend-prefix-load
-    slice-aggregate-load-2
-    slice-aggregate-load-3
-    slice-aggregate-load-4
-    slice-aggregate-load-5
-    slice-aggregate-load-6
+    slice-aggregate-load
     load-requires
-    number-requires
-    cast-n
-    cast-g
-    cast-a
-    slice-aggregate-tabulate
-    slice-aggregate-tabulate-2
-    slice-aggregate-tabulate-3
-    slice-aggregate-tabulate-4
-    tabulate-requires
-    array-share-prefix-ends
-    slice-aggregate-link
-    array-share-prefix-owners
-    slice-aggregate-link-2
+    table-room-requires
+    cast-count
+    mul-ends
+    add-ends
+    mul-owners
+    add-owners
+    add-link
+    mul-link
+    sub-link
+    part-link-start
+    part-link-end
+    add-link-2
+    mul-link-2
+    sub-link-2
+    part-link-start-2
+    part-link-end-2
     link-requires
     same-length
     same-length-2
     returns-2
     same-length-3
+    same-length-4
     returns-3)

@@ -1,17 +1,17 @@
 -- `graph::link` meets its contract: the groups are sorted into their part, and the starts and the labels are put past
 -- it. Assumes nothing.
-use mathlib.Core.Path.{_≡_, _∙_}
+use mathlib.Core.Path.{_≡_, refl, _∙_}
 use mathlib.Core.Bool.{true}
 use mathlib.Core.List.{List}
-use Prim.Native.Nat.{ℕ, _-_, _≤_}
+use Prim.Native.Nat.{ℕ, _-_, _/_, _≤_}
 use native.Mathlib.Omega.{arith}
 use borrow.Author.Needs.{needs}
 use borrow.Rule.Slice.PartMut.{midOf, putMid, same-len-mid, mid-len}
 use denote.Ref.{now}
-use lib.ListN.{length, drop, replicate, length-drop, length-replicate}
+use lib.ListN.{length, replicate, length-replicate}
 use Rattle.sort.specs.Sorted.{sortable}
+use Rattle.game.specs.Packed.{placesIn}
 use Rattle.graph.proofs.Packing.{linked, picked, sortable-yes}
-use lib.Seq.{length-take-le}
 use Rattle.graph.proofs.link.Statement.{statement}
 use Rattle.graph.proofs.link.Tie as tie
 
@@ -21,8 +21,17 @@ number-requires c κs = search needs
 cast-count : tie.Need-cast-count
 cast-count c = search needs
 
+sub-at : tie.Need-sub-at
+sub-at c = search needs
+
+sub-labels : tie.Need-sub-labels
+sub-labels c = search needs
+
 slice-aggregate-sort : tie.Need-slice-aggregate-sort
 slice-aggregate-sort c = search needs
+
+mul-sort : tie.Need-mul-sort
+mul-sort c = search needs
 
 sub-sort : tie.Need-sub-sort
 sub-sort c = search needs
@@ -45,54 +54,44 @@ add-put c = search needs
 put-requires : tie.Need-put-requires
 put-requires c κs = search needs
 
--- the graph as it came, what is sorted into it, and the graph with that
-abbrev sorting : tie.After-put → tie.After-sort
-sorting c = c .before .before .before .before .before .before
-
-abbrev entry : tie.After-sort → tie.Start
-entry c = c .before .before .before .before .before .before .before .before
-
--- it is as long as it came
-long : (c : tie.After-put) → length (c .put .last .1 .1 .0) ≡ length (now (entry (sorting c) .args .graph))
-long c =
-    let g = now (entry (sorting c) .args .graph) in
-    let part = sorting c .sort .last .1 .1 .1 .1 .0 in
-    let same : length part ≡ length (midOf 8192 8192 g) = sorting c .sort .kept .1 .1 .1 .1 .0 in
-    let put : length (c .put .last .1 .1 .0) ≡ length (putMid 8192 8192 g part) = c .put .kept .1 .1 .0 in
-    put ∙ same-len-mid 8192 8192 g part same
+mul-put-labels : tie.Need-mul-put-labels
+mul-put-labels c = search needs
 
 sub-put-labels : tie.Need-sub-put-labels
-sub-put-labels c = omega (arith, long (c .before .before), entry (sorting (c .before .before)) .pre .1 .1)
+sub-put-labels c = search needs
 
 part-put-labels-start : tie.Need-part-put-labels-start
-part-put-labels-start c = omega (arith, long (c .before .before), entry (sorting (c .before .before)) .pre .1 .1)
+part-put-labels-start c = search needs
 
 part-put-labels-end : tie.Need-part-put-labels-end
 part-put-labels-end c = search needs
 
 put-labels-requires : tie.Need-put-labels-requires
-put-labels-requires c κs =
-    let put = c .before .before .before in
-    let g = put .put .last .1 .1 .0 in
-    omega (
-      arith,
-      long put,
-      entry (sorting put) .pre .0 .0,
-      entry (sorting put) .pre .1 .1,
-      length-drop 17409 g,
-      length-take-le (length g - 17409) (drop 17409 g) (omega (arith, length-drop 17409 g)),
-    )
+put-labels-requires c κs = search needs
 
 same-length : tie.Need-same-length
-same-length c =
-    let labelled = c .before .before in
-    let put = labelled .before .before .before .before in
-    let g = put .put .last .1 .1 .0 in
-    let part = labelled .put-labels .last .1 .0 in
-    let same : length part ≡ length (midOf 17409 (length g - 17409) g) = labelled .put-labels .kept .1 .0 in
-    same-len-mid 17409 (length g - 17409) g part same ∙ long put
+same-length c = search needs
+
+-- from the sort, and from the labels, back to the function's entry
+abbrev entry : tie.After-sort → tie.Start
+entry c = c .before .before .before .before .before .before .before .before
+
+abbrev sorting : tie.After-put → tie.After-sort
+sorting c = c .before .before .before .before .before .before
+
+-- the graph is as long as it came
+long : (c : tie.After-put) → length (c .put .last .1 .1 .0) ≡ length (now (entry (sorting c) .args .graph))
+long c =
+    let g = now (entry (sorting c) .args .graph) in
+    let s = length g - 2049 in
+    let k = s / 2 in
+    let part = sorting c .sort .last .1 .1 .1 .1 .0 in
+    let same : length part ≡ length (midOf k (s - k) g) = sorting c .sort .kept .1 .1 .1 .1 .0 in
+    let put : length (c .put .last .1 .1 .0) ≡ length (putMid k (s - k) g part) = c .put .kept .1 .1 .0 in
+    put ∙ same-len-mid k (s - k) g part same
 
 returns : tie.Need-returns
+unfolding placesIn
 returns c =
     let labelled = c .before .before in
     let put = labelled .before .before .before .before in
@@ -100,21 +99,27 @@ returns c =
     let a = entry sort .args in
     let n = sort .before .before .before .number .result in
     let g = now (a .graph) in
-    let old = midOf 8192 8192 g in
+    let s = length g - 2049 in
+    let k = s / 2 in
+    let l = length g - 1024 in
+    let old = midOf k (s - k) g in
     let from : List ℕ = replicate 1025 0 in
     let read = sort .before .before .before .number .ensures in
-    let few = entry sort .pre .0 in
+    let fits = entry sort .pre in
     let keys = length (now (a .ends)) in
-    let low : n ≤ 1024 = omega (arith, few .0) in
-    let fits : sortable keys (length (now (a .owners))) n (length from) (length old) ≡ true =
-    sortable-yes keys (length (now (a .owners))) n (length from) (length old) low (omega (arith, few .1))
-    (entry sort .pre .1 .0) (omega (arith, length-replicate {A = ℕ} 1025 0))
-    (omega (arith, few .1, entry sort .pre .1 .1, mid-len 8192 16384 g (omega (arith, entry sort .pre .1 .1)))) in
+    let low : n ≤ 1024 = omega (arith, fits .states-few) in
+    let sorts : sortable keys (length (now (a .owners))) n (length from) (length old) ≡ true =
+    sortable-yes keys (length (now (a .owners))) n (length from) (length old) low (omega (arith, fits .ends-few))
+    (fits .owned) (omega (arith, length-replicate {A = ℕ} 1025 0))
+    (omega (arith, fits .ends-fit, fits .graph-long, mid-len k s g (omega arith))) in
+    let labels = labelled .put-labels .last .1 .0 in
+    let g₂ = put .put .last .1 .1 .0 in
+    let size : length (putMid l (length g₂ - l) g₂ labels) ≡ length g =
+    same-len-mid l (length g₂ - l) g₂ labels (labelled .put-labels .kept .1 .0) ∙ long put in
     linked (now (a .plant)) (now (a .ends)) (now (a .owners)) old (sort .sort .last .1 .1 .1 .1 .0) from
-    (sort .sort .last .1 .1 .1 .0) g (put .put .last .1 .1 .0) (labelled .put-labels .last .1 .0) _ _ n read low
-    (few .1) (entry sort .pre .1 .1) (long put)
-    (picked _ (sort .sort .last .1 .1 .1 .1 .0) _ _ fits (sort .sort .ensures .1 .1))
-    (picked _ (sort .sort .last .1 .1 .1 .0) _ _ fits (sort .sort .ensures .1 .0))
+    (sort .sort .last .1 .1 .1 .0) g g₂ labels _ _ n k s l read fits (long put) size refl refl refl
+    (picked _ (sort .sort .last .1 .1 .1 .1 .0) _ _ sorts (sort .sort .ensures .1 .1))
+    (picked _ (sort .sort .last .1 .1 .1 .0) _ _ sorts (sort .sort .ensures .1 .0))
     (put .put .ensures .0) (put .put .ensures .1) (labelled .put-labels .ensures)
 
 pub link-spec : {M : Type 1} → statement M
@@ -123,7 +128,10 @@ link-spec =
     (tie.spec
     number-requires
     cast-count
+    sub-at
+    sub-labels
     slice-aggregate-sort
+    mul-sort
     sub-sort
     part-sort-start
     part-sort-end
@@ -131,6 +139,7 @@ link-spec =
     slice-aggregate-put
     add-put
     put-requires
+    mul-put-labels
     sub-put-labels
     part-put-labels-start
     part-put-labels-end

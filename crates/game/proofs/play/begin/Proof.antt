@@ -11,15 +11,16 @@ use Rattle.statements.specs.Sets.{numbers}
 use Rattle.game.specs.Walked.{nodes}
 use Rattle.game.specs.Packed.{part, groupsIn, revIn, startsIn}
 use Rattle.game.specs.Marks.{Marked, without}
-use Rattle.game.proofs.Begun.{starts-nodes, groups-length, front-room}
+use Rattle.game.proofs.Parts.{groups-front, groups-length, starts-nodes}
+use Rattle.game.proofs.Begun.{front-room}
 use Rattle.game.proofs.Standing.{begun, others-below, without-others}
 use borrow.Author.Needs.{needs}
 use Rattle.game.proofs.play.begin.Statement.{statement}
 use Rattle.game.proofs.play.begin.Tie as tie
 
 -- the calls before the last, and the function's entry
-abbrev rested : tie.After-strike-arg3 → tie.After-rest
-rested c = c .before .before .before .before
+abbrev rested : tie.After-strike-in-arg3 → tie.After-rest
+rested c = c .before .before .before .before .before
 
 abbrev opened : tie.After-rest → tie.After-open
 opened c = c .before .before .before .before
@@ -48,36 +49,40 @@ all-marked c =
     let t = tallied o in
     let s = entry t in
     let p = s .pre in
-    let graph = now (s .args .graph) in
-    let n = s .args .game .nodes in
-    let gl = groups-length graph (s .args .game .groups) (omega (arith, p .0 .few-groups, p .0 .long)) in
-    let nl = starts-nodes graph n (p .0 .few-nodes) (p .0 .long) in
-    begun _ _ _ (p .0 .index) _ _ _ (λ g h. p .1 .1 .1 .1 .1 g (omega arith))
-    (λ x h. t .tally .ensures x (omega (arith, p .1 .1 .1 .0 .0))) (λ x h. o .open .ensures x (omega arith))
-    (omega (arith, nl, p .1 .1 .0 .0, o .open .kept .1 .1 .0))
-    (omega (arith, nl, p .1 .1 .1 .0 .0, t .tally .kept .1 .0)) (omega (arith, gl, p .1 .1 .1 .1 .0))
+    let live = p .1 .1 .1 .0 .long in
+    let dead = p .1 .1 .1 .1 in
+    let gl = groups-length (now (s .args .graph)) (p .0 .fits) in
+    let nl = starts-nodes (now (s .args .graph)) (p .0 .fits) in
+    begun _ _ _ (p .0 .index) _ _ _ (λ g h. dead .all g (omega (arith, gl, dead .long)))
+    (λ x h. t .tally .ensures x (omega (arith, live))) (λ x h. o .open .ensures x (omega arith))
+    (omega (arith, nl, p .1 .1 .0 .long, o .open .kept .1 .1 .0)) (omega (arith, nl, live, t .tally .kept .1 .0))
+    (omega (arith, gl, dead .long))
 
 slice-aggregate-tally : tie.Need-slice-aggregate-tally
 slice-aggregate-tally c =
     let s = c .before .before .before .before .before .before in
-    sym (length-take-le (s .args .game .groups) (now (s .args .graph))
-    (omega (arith, s .pre .0 .few-groups, s .pre .0 .long)))
+    groups-front (now (s .args .graph)) (s .pre .0 .fits)
 
 tally-requires : tie.Need-tally-requires
 unfolding part groupsIn revIn startsIn
 tally-requires c κs =
     let s = c .before .before .before .before .before .before .before in
     let p = s .pre in
-    let graph = now (s .args .graph) in
-    let nl = starts-nodes graph (s .args .game .nodes) (p .0 .few-nodes) (p .0 .long) in
-    let gl = groups-length graph (s .args .game .groups) (omega (arith, p .0 .few-groups, p .0 .long)) in (
-      omega (arith, gl, p .0 .few-groups),
-      λ a h. omega (arith, p .0 .index .of-node a h, nl, p .1 .1 .1 .0 .0),
-      p .1 .1 .1 .0 .1,
+    let nl = starts-nodes (now (s .args .graph)) (p .0 .fits) in
+    let gl = groups-length (now (s .args .graph)) (p .0 .fits) in (
+      omega (arith, gl, p .0 .fits .few-groups, p .0 .fits .places-few),
+      λ a h. omega (arith, p .0 .index .of-node a h, nl, p .1 .1 .1 .0 .long),
+      p .1 .1 .1 .0 .all,
     )
 
 open-requires : tie.Need-open-requires
-open-requires c κs = search needs
+open-requires c κs =
+    let t = c .before .before .before .before in
+    let p = entry t .pre in
+    let member = p .1 .1 .0 in (
+      omega (arith, p .1 .1 .1 .0 .long, t .tally .kept .1 .0),
+      (member .long, λ x h. member .all x (omega (arith, member .long))),
+    )
 
 slice-aggregate-rest : tie.Need-slice-aggregate-rest
 slice-aggregate-rest c = search needs
@@ -85,56 +90,19 @@ slice-aggregate-rest c = search needs
 rest-requires : tie.Need-rest-requires
 rest-requires c κs = search needs
 
-add-strike : tie.Need-add-strike
-add-strike c = search needs
-
-sub-strike : tie.Need-sub-strike
-sub-strike c = search needs
-
-part-strike-start : tie.Need-part-strike-start
-part-strike-start c = search needs
-
-part-strike-end : tie.Need-part-strike-end
-part-strike-end c = search needs
-
-add-strike-2 : tie.Need-add-strike-2
-add-strike-2 c = search needs
-
-add-strike-3 : tie.Need-add-strike-3
-add-strike-3 c = search needs
-
-sub-strike-2 : tie.Need-sub-strike-2
-sub-strike-2 c = search needs
-
-part-strike-start-2 : tie.Need-part-strike-start-2
-part-strike-start-2 c = search needs
-
-part-strike-end-2 : tie.Need-part-strike-end-2
-part-strike-end-2 c = search needs
-
-slice-aggregate-strike : tie.Need-slice-aggregate-strike
-slice-aggregate-strike c =
-    let s = entry (tallied (opened (rested c))) in
-    sym (length-take-le (s .args .game .groups) (now (s .args .graph))
-    (omega (arith, s .pre .0 .few-groups, s .pre .0 .long)))
-
 array-share-prefix-gone : tie.Need-array-share-prefix-gone
-array-share-prefix-gone c = front-room _ _ (gone-front (rested c))
+array-share-prefix-gone c = front-room _ _ (gone-front (c .before))
 
-slice-aggregate-strike-2 : tie.Need-slice-aggregate-strike-2
-slice-aggregate-strike-2 c = gone-front (rested (c .before))
+slice-aggregate-strike-in : tie.Need-slice-aggregate-strike-in
+slice-aggregate-strike-in c = gone-front (c .before .before)
 
-strike-requires : tie.Need-strike-requires
-unfolding part groupsIn revIn startsIn
-strike-requires c κs =
-    let r = rested (c .before .before .before .before) in
-    let s = entry (tallied (opened r)) in
-    let p = s .pre in
-    let n = s .args .game .nodes in
-    let nl = starts-nodes (now (s .args .graph)) n (p .0 .few-nodes) (p .0 .long) in (
-      p .0 .index,
+strike-in-requires : tie.Need-strike-in-requires
+strike-in-requires c κs =
+    let r = rested c in
+    let s = entry (tallied (opened r)) in (
+      s .pre .0,
       (
-        λ x h. omega (arith, nl, others-below n (now (s .args .start)) x (rw (r .rest .ensures .0) at h)),
+        λ x h. others-below (s .args .game .nodes) (now (s .args .start)) x (rw (r .rest .ensures .0) at h),
         (_, all-marked r),
       ),
     )
@@ -149,17 +117,15 @@ same-length-3 : tie.Need-same-length-3
 same-length-3 c = search needs
 
 returns : tie.Need-returns
-unfolding part groupsIn revIn startsIn
 returns c =
     let strike = c .before .before .before .before .before .before in
-    let r = rested (strike .before .before .before .before .before) in
+    let r = rested (strike .before) in
     let s = entry (tallied (opened r)) in
-    let p = s .pre in
     let n = s .args .game .nodes in
-    let nl = starts-nodes (now (s .args .graph)) n (p .0 .few-nodes) (p .0 .long) in
+    let nl = starts-nodes (now (s .args .graph)) (s .pre .0 .fits) in
     let is : without (take (r .rest .result) (r .rest .last .1 .1 .0)) (numbers n 0) ≡ now (s .args .start) =
-    ap (λ (l : List ℕ). without l (numbers n 0)) (r .rest .ensures .0) ∙ without-others n _ (p .1 .0) in
-    rw is at (rw nl at (strike .strike .ensures _ (all-marked r)))
+    ap (λ (l : List ℕ). without l (numbers n 0)) (r .rest .ensures .0) ∙ without-others n _ (s .pre .1 .0) in
+    rw is at (rw nl at (strike .strike-in .ensures _ (all-marked r)))
 
 pub begin-spec : {M : Type 1} → statement M
 begin-spec =
@@ -170,19 +136,9 @@ begin-spec =
     open-requires
     slice-aggregate-rest
     rest-requires
-    add-strike
-    sub-strike
-    part-strike-start
-    part-strike-end
-    add-strike-2
-    add-strike-3
-    sub-strike-2
-    part-strike-start-2
-    part-strike-end-2
-    slice-aggregate-strike
     array-share-prefix-gone
-    slice-aggregate-strike-2
-    strike-requires
+    slice-aggregate-strike-in
+    strike-in-requires
     same-length
     same-length-2
     same-length-3

@@ -1,11 +1,10 @@
 -- `game::play::open` meets its contract: before each turn the nodes so far are marked where they have a group.
 -- Assumes nothing.
-use mathlib.Core.Path.{_≡_, _∙_, refl, ap}
+use mathlib.Core.Path.{_≡_, _∙_, refl}
 use mathlib.Core.Logic.{⊎-elim}
-use Prim.Native.Nat.{ℕ, _-_, _<_, _≤_}
+use Prim.Native.Nat.{_-_}
 use native.Mathlib.Omega.{arith}
-use denote.Ref.{now}
-use lib.ListN.{length, getD, length-set}
+use lib.ListN.{length, length-set}
 use Rattle.game.proofs.Opening.{Opening, open-none, open-no, open-yes}
 use Rattle.game.proofs.play.open.Statement.{statement}
 use Rattle.game.proofs.play.open.Tie as tie

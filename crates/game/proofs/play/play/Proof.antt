@@ -1,50 +1,54 @@
--- `game::play::play` meets its contract: before each round its set stands at the front of the list, and the measure is
--- its number of nodes. Assumes nothing.
+-- `game::play::play` meets its contract: the set begins; before each round its set stands at the front of the list, and
+-- the measure is its number of nodes. Assumes nothing.
 use mathlib.Core.Path.{_≡_, refl, ap, sym, _∙_}
 use Prim.Native.Nat.{ℕ, _≤_, _*_}
 use native.Mathlib.Omega.{arith}
 use borrow.Author.Needs.{needs}
 use denote.Ref.{now}
-use lib.ListN.{length, take, drop, length-replicate}
+use lib.ListN.{length, take, length-replicate}
 use lib.Seq.{length-take-le}
 use Rattle.statements.specs.Sets.{filter}
 use Rattle.game.specs.Cuts.{waitsAll}
-use Rattle.game.specs.Playing.{RoundIn, Rest}
+use Rattle.game.specs.Playing.{RoundIn, Rest, lastEight}
+use Rattle.game.proofs.Parts.{fresh-made}
 use Rattle.game.proofs.Plays.{Outset, standing, first-round, next-round, last-held, last-waits, rest-more}
 use Rattle.game.proofs.Plays.{MarkedIn, front-left}
 use Rattle.game.proofs.play.play.Statement.{statement}
 use Rattle.game.proofs.play.play.Tie as tie
 
 abbrev Inv-loop : tie.InvT-loop
-Inv-loop graph game sizes start member₀ live₀ dead₀ waits₀ scratch₀ queue₀ list₀ kept₀
-    member live dead waits scratch queue list kept =
+Inv-loop graph game sizes start dead₀ scratch₀ waits₀ member₀ live₀ queue₀ list₀ kept₀
+    dead scratch waits member live queue list kept =
     Outset graph (game .nodes) (game .groups) (game .positions) (game .goals) start waits₀ member live dead waits
     scratch queue list kept
-    × (length member ≡ length member₀) × (length live ≡ length live₀) × (length dead ≡ length dead₀)
+    × (length dead ≡ length dead₀) × (length scratch ≡ length scratch₀)
 
 abbrev μ-loop : tie.MeasureT-loop
-μ-loop graph game sizes start member₀ live₀ dead₀ waits₀ scratch₀ queue₀ list₀ kept₀
-    member live dead waits scratch queue list kept = kept
+μ-loop graph game sizes start dead₀ scratch₀ waits₀ member₀ live₀ queue₀ list₀ kept₀
+    dead scratch waits member live queue list kept = kept
 
--- the function's entry, seen from the copy and from a round's beginning
-abbrev opened : tie.After-list Inv-loop μ-loop → tie.Start Inv-loop μ-loop
-opened c = c .before .before .before .before .before .before .before .before
+-- the set begun, seen from the copy, and the function's entry, seen from there and from a round's beginning
+abbrev begun : tie.After-list Inv-loop μ-loop → tie.After-begin Inv-loop μ-loop
+begun c = c .before .before .before .before .before
+
+abbrev opened : tie.After-begin Inv-loop μ-loop → tie.Start Inv-loop μ-loop
+opened c = c .before .before .before .before .before .before .before .before .before .before
 
 abbrev entry : tie.At-loop Inv-loop μ-loop → tie.Start Inv-loop μ-loop
-entry c = opened (c .before .before .before)
+entry c = opened (begun (c .before .before .before))
 
 -- the round's beginning, seen from the seek, and the seek from the shrink
 abbrev turn : tie.After-queue Inv-loop μ-loop → tie.At-loop Inv-loop μ-loop
 turn c = c .before .before .before .before .before
 
 abbrev sought : tie.After-held Inv-loop μ-loop → tie.After-seek Inv-loop μ-loop
-sought c = c .before .before .before .before .before
+sought c = c .before .before .before .before .before .before
 
 abbrev figures : tie.After-queue3 Inv-loop μ-loop → tie.After-held Inv-loop μ-loop
 figures c = c .before .before .before .before .before .before
 
 abbrev shrunk : tie.After-queue4 Inv-loop μ-loop → tie.After-shrink Inv-loop μ-loop
-shrunk c = c .before .before .before .before .before .before .before .before
+shrunk c = c .before .before .before .before .before .before
 
 -- what is left of a round's set, in the figures of the game
 left-is : (c : tie.After-shrink Inv-loop μ-loop)
@@ -68,7 +72,7 @@ reached : (c : tie.After-seek Inv-loop μ-loop)
     let s = entry t .args in
     let game = s .game in
     RoundIn (now (s .graph)) (game .nodes) (game .groups) (game .positions) (game .goals) (now (s .start))
-    (take (t .loop .kept) (t .loop .list)) (game .goals) (drop 8192 (c .seek .last .1 .1 .1 .1 .1 .0))
+    (take (t .loop .kept) (t .loop .list)) (game .goals) (lastEight (c .seek .last .1 .1 .1 .1 .1 .0))
     (c .seek .last .1 .1 .1 .1 .1 .1 .0)
 reached c = c .seek .ensures .0 _ (turn (c .before) .loop .inv .0 .round)
 
@@ -78,6 +82,26 @@ untouched : (c : tie.After-seek Inv-loop μ-loop)
     Rest (s .game .goals * s .game .nodes) (now (s .waits)) (c .seek .last .1 .1 .1 .1 .1 .1 .0)
 untouched c = rest-more (turn (c .before) .loop .inv .0 .rest) (c .seek .ensures .1)
 
+slice-aggregate-begin : tie.Need-slice-aggregate-begin Inv-loop μ-loop
+slice-aggregate-begin c = search needs
+
+slice-aggregate-begin-2 : tie.Need-slice-aggregate-begin-2 Inv-loop μ-loop
+slice-aggregate-begin-2 c = search needs
+
+begin-requires : tie.Need-begin-requires Inv-loop μ-loop
+begin-requires c κs =
+    let s = c .before .before .before .before .before .before .before .before .before in
+    let few = s .pre .0 .fits .few-nodes in (
+      s .pre .0,
+      (
+        s .pre .1 .1 .0,
+        (
+          fresh-made (s .args .game .nodes) 65535 1024 few,
+          (fresh-made (s .args .game .nodes) 0 1024 few, s .pre .1 .1 .1 .0),
+        ),
+      ),
+    )
+
 slice-aggregate-copy : tie.Need-slice-aggregate-copy Inv-loop μ-loop
 slice-aggregate-copy c = search needs
 
@@ -86,10 +110,12 @@ copy-requires c κs = search needs
 
 loop-holds : tie.Need-loop-holds Inv-loop μ-loop
 loop-holds c =
-    let s = opened (c .before .before) in (
-      first-round _ _ _ _ _ (s .pre .0) _ _ _ _ _ _ _ (s .pre .1 .1 .0) (s .pre .1 .1 .1 .1)
-          (length-replicate {A = ℕ} 1024 0) (c .before .copy .ensures),
-      refl,
+    let b = begun (c .before .before) in
+    let s = opened b in
+    let kept = b .begin .kept .1 .1 .1 in (
+      first-round _ _ _ _ _ (s .pre .0) _ _ _ _ _ _ _ _ (s .pre .1 .1 .0) (b .begin .ensures)
+          (kept .0 ∙ length-replicate {A = ℕ} 1024 65535) (kept .1 .0 ∙ length-replicate {A = ℕ} 1024 0)
+          (s .pre .1 .1 .1 .1 .0) (length-replicate {A = ℕ} 1024 0) (c .before .copy .ensures),
       refl,
       refl,
     )
@@ -119,7 +145,7 @@ seek-requires c κs =
           i .round .sifted,
           (
             standing _ _ _ _ _ (s .pre .0) _ _ _ _ (i .marked),
-            (i .scratch-long, (omega (arith, s .pre .1 .1 .1 .0, i .rest .long), i .queue-long)),
+            (i .scratch-long, (omega (arith, s .pre .1 .1 .1 .1 .1, i .rest .long), i .queue-long)),
           ),
         ),
       ),
@@ -134,6 +160,12 @@ slice-aggregate-shrink c = search needs
 slice-aggregate-shrink-2 : tie.Need-slice-aggregate-shrink-2 Inv-loop μ-loop
 slice-aggregate-shrink-2 c = search needs
 
+slice-aggregate-shrink-3 : tie.Need-slice-aggregate-shrink-3 Inv-loop μ-loop
+slice-aggregate-shrink-3 c = search needs
+
+slice-aggregate-shrink-4 : tie.Need-slice-aggregate-shrink-4 Inv-loop μ-loop
+slice-aggregate-shrink-4 c = search needs
+
 shrink-requires : tie.Need-shrink-requires Inv-loop μ-loop
 shrink-requires c κs =
     let sk = sought (figures c) in
@@ -147,8 +179,8 @@ shrink-requires c κs =
         (i .room, i .round .sifted),
         (
           (
-            omega (arith, s .pre .1 .1 .1 .0, untouched sk .long),
-            omega (arith, s .pre .0 .few-nodes, kept .1 .0, i .queue-long),
+            omega (arith, s .pre .1 .1 .1 .1 .1, untouched sk .long),
+            omega (arith, s .pre .0 .fits .few-nodes, kept .1 .0, i .queue-long),
           ),
           i .marked,
         ),
@@ -158,20 +190,17 @@ shrink-requires c κs =
 same-length : tie.Need-same-length Inv-loop μ-loop
 same-length c =
     let d = shrunk (c .before) in
-    d .shrink .kept .1 .1 .1 .1 .0 ∙ turn (sought (figures (d .before)) .before) .loop .inv .1
+    let t = turn (sought (figures (d .before)) .before) in
+    d .shrink .kept .1 .1 .1 .1 .1 .1 .0
+    ∙ (t .loop .inv .1 ∙ begun (t .before .before .before) .begin .kept .1 .1 .1 .1 .1 .0)
 
 same-length-2 : tie.Need-same-length-2 Inv-loop μ-loop
 same-length-2 c =
-    let d = shrunk (c .before) in
-    d .shrink .kept .1 .1 .1 .1 .1 .0 ∙ turn (sought (figures (d .before)) .before) .loop .inv .2
+    let sk = sought (figures (shrunk (c .before) .before)) in
+    sk .seek .kept .1 .1 .1 .1 .1 .0 ∙ turn (sk .before) .loop .inv .2
 
 same-length-3 : tie.Need-same-length-3 Inv-loop μ-loop
-same-length-3 c =
-    let d = shrunk (c .before) in
-    d .shrink .kept .1 .1 .1 .1 .1 .1 .0 ∙ turn (sought (figures (d .before)) .before) .loop .inv .3
-
-same-length-4 : tie.Need-same-length-4 Inv-loop μ-loop
-same-length-4 c = untouched (sought (figures (shrunk (c .before) .before))) .long
+same-length-3 c = untouched (sought (figures (shrunk (c .before) .before))) .long
 
 returns : tie.Need-returns Inv-loop μ-loop
 returns c =
@@ -185,7 +214,7 @@ returns c =
     ≤ length (take (d .shrink .result) (d .shrink .last .1 .1 .1 .0)) =
     omega (arith, size, c .if1 .taken, l .0, ap length (l .1 .0)) in (
       sym (ap length (last-held _ _ _ _ _ (s .pre .0) _ _ _ _ (reached sk) _ (l .1 .0) still) ∙ size),
-      last-waits _ _ _ _ _ (s .pre .0) _ _ _ _ (reached sk) _ (l .1 .0) still _ (s .pre .1 .1 .1 .0) (untouched sk),
+      last-waits _ _ _ _ _ (s .pre .0) _ _ _ _ (reached sk) _ (l .1 .0) still _ (s .pre .1 .1 .1 .1 .1) (untouched sk),
     )
 
 loop-less : tie.Need-loop-less Inv-loop μ-loop
@@ -207,13 +236,14 @@ loop-again c =
         marked = l .1 .1;
         round = next-round _ _ _ _ _ (s .pre .0) _ _ _ _ (reached sk) _ (l .1 .0);
         rest = untouched sk;
-        scratch-long = sought-kept .0 ∙ i .0 .scratch-long;
+        scratch-long = omega (arith, sought-kept .0, i .0 .scratch-long);
         queue-long = kept .1 .1 .1 .1 .0 ∙ (sought-kept .1 .1 .0 ∙ i .0 .queue-long);
         list-long = kept .0 ∙ i .0 .list-long;
+        member-long = kept .1 .0 ∙ i .0 .member-long;
+        live-long = kept .1 .1 .0 ∙ i .0 .live-long;
       },
-      kept .1 .0 ∙ i .1,
-      kept .1 .1 .0 ∙ i .2,
-      kept .1 .1 .1 .0 ∙ i .3,
+      kept .1 .1 .1 .0 ∙ i .1,
+      sought-kept .0 ∙ i .2,
     )
 
 pub play-spec : {M : Type 1} → statement M
@@ -222,6 +252,9 @@ play-spec =
     (tie.spec
     Inv-loop
     μ-loop
+    slice-aggregate-begin
+    slice-aggregate-begin-2
+    begin-requires
     slice-aggregate-copy
     copy-requires
     loop-holds
@@ -233,11 +266,12 @@ play-spec =
     held-requires
     slice-aggregate-shrink
     slice-aggregate-shrink-2
+    slice-aggregate-shrink-3
+    slice-aggregate-shrink-4
     shrink-requires
     same-length
     same-length-2
     same-length-3
-    same-length-4
     returns
     loop-less
     loop-again)

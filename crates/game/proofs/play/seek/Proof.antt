@@ -10,18 +10,19 @@ use lib.ListN.{length, take, drop, set, length-set, length-drop}
 use lib.Seq.{length-take-le}
 use Rattle.sets.proofs.Iterate.{sifted-few, sifted-below}
 use Rattle.game.specs.Packed.{part, labelsIn}
-use Rattle.game.proofs.Opening.{labels-length}
+use Rattle.game.proofs.Parts.{labels-length}
 use Rattle.game.proofs.Seeking.{Seeking, Turn, seek-none, seek-skip, seek-turn, seek-reach, seek-end}
 use Rattle.game.proofs.play.seek.Statement.{statement}
 use Rattle.game.proofs.play.seek.Tie as tie
 
 abbrev Inv-loop : tie.InvT-loop
-Inv-loop graph game sizes set member scratch₀ waits₀ queue₀ nodes goal₀ scratch waits queue goal =
+Inv-loop graph game sizes set member scratch₀ waits₀ queue₀ nodes labels last goal₀ scratch waits queue goal =
     Seeking graph (game .nodes) (game .groups) (game .positions) (game .goals) set scratch₀ waits₀ scratch waits goal
     × (length queue ≡ 1024)
 
 abbrev μ-loop : tie.MeasureT-loop
-μ-loop graph game sizes set member scratch₀ waits₀ queue₀ nodes goal₀ scratch waits queue goal = game .goals - goal
+μ-loop graph game sizes set member scratch₀ waits₀ queue₀ nodes labels last goal₀ scratch waits queue goal =
+    game .goals - goal
 
 -- the function's entry, seen from the loop, and a turn's begin, seen from its `if`
 abbrev entry : tie.At-loop Inv-loop μ-loop → tie.Start Inv-loop μ-loop
@@ -30,13 +31,22 @@ entry c = c .before .before .before .before .before .before .before .before
 abbrev turned : tie.After-slice-known5 Inv-loop μ-loop → tie.Then1 Inv-loop μ-loop
 turned c = c .before .before .before .before .before .before
 
+sub-labels : tie.Need-sub-labels Inv-loop μ-loop
+sub-labels c = search needs
+
+sub-last : tie.Need-sub-last Inv-loop μ-loop
+sub-last c = search needs
+
 loop-holds : tie.Need-loop-holds Inv-loop μ-loop
 loop-holds c =
     let room = c .before .before .before .before .before .before .before .pre .1 .1 .1 .1 in
-    (seek-none (room .0), room .1 .1)
+    (seek-none, room .1 .1)
 
 add-aim : tie.Need-add-aim Inv-loop μ-loop
 add-aim c = search needs
+
+mul-aim : tie.Need-mul-aim Inv-loop μ-loop
+mul-aim c = search needs
 
 sub-aim : tie.Need-sub-aim Inv-loop μ-loop
 sub-aim c = search needs
@@ -57,10 +67,10 @@ aim-requires c κs =
     let few = sifted-few n (now (entry l .args .set)) (p .1 .1 .0) in (
       λ x h.
           let low = sifted-below n (now (entry l .args .set)) (p .1 .1 .0) x h in
-          (omega (arith, labels-length g n (p .0 .few-nodes) (p .0 .long)), omega (arith, p .1 .1 .1 .0 .0)),
+          (omega (arith, labels-length g (p .0 .fits)), omega (arith, p .1 .1 .1 .0 .0)),
       (
         omega (arith, p .0 .few-goals, c .before .before .if1 .taken),
-        (omega (arith, few, p .0 .few-nodes, l .loop .inv .1), omega (arith, few, p .0 .few-nodes)),
+        (omega (arith, few, p .0 .fits .few-nodes, l .loop .inv .1), omega (arith, few, p .0 .fits .few-nodes)),
       ),
     )
 
@@ -72,6 +82,16 @@ mul-if2 c = search needs
 
 slice-read-if2 : tie.Need-slice-read-if2 Inv-loop μ-loop
 slice-read-if2 c = search needs
+
+-- the scratch numbers have room for the counters, and 8 more
+wide : (c : tie.At-loop Inv-loop μ-loop)
+    → let s = entry c .args in
+    (s .game .groups + 8 ≤ length (now (s .scratch))) × (length (c .loop .scratch) ≡ length (now (s .scratch)))
+wide c = (entry c .pre .1 .1 .1 .1 .0, c .loop .inv .0 .long)
+
+-- where those begin
+abbrev last : tie.At-loop Inv-loop μ-loop → ℕ
+last c = length (now (entry c .args .scratch)) - 8
 
 -- the targets are in line, and there is room for the column
 turn : (c : tie.After-slice-known5 Inv-loop μ-loop)
@@ -85,31 +105,35 @@ turn c =
     let p = entry l .pre in
     let aim = c .before .before .before .aim in
     seek-turn _ (p .0) (p .1 .1 .0) (p .1 .1 .1 .0 .1) (l .loop .inv .0) (turned c .if1 .taken) (aim .ensures .0)
-    (p .1 .1 .1 .1 .1 .0) (aim .ensures .1)
+    (omega (arith, wide l)) (p .1 .1 .1 .1 .1 .0) (aim .ensures .1)
 
 -- the scratch numbers when that of the targets is noted, and their front
 abbrev noted : tie.After-slice-known5 Inv-loop μ-loop → List ℕ
 noted c =
     let l = turned c .before .before in
-    set (l .loop .scratch) (8192 + l .loop .goal) (c .before .before .before .aim .result)
+    set (l .loop .scratch) (last l + l .loop .goal) (c .before .before .before .aim .result)
 
-noted-long : (c : tie.After-slice-known5 Inv-loop μ-loop) → 8192 ≤ length (noted c)
+noted-long : (c : tie.After-slice-known5 Inv-loop μ-loop) → last (turned c .before .before) ≤ length (noted c)
 noted-long c =
-    let l = turned c .before .before .loop in
+    let l = turned c .before .before in
     omega (
       arith,
-      length-set (l .scratch) (8192 + l .goal) (c .before .before .before .aim .result),
-      l .inv .0 .long,
+      length-set (l .loop .scratch) (last l + l .loop .goal) (c .before .before .before .aim .result),
+      wide l,
     )
 
-front-long : (c : tie.After-slice-known5 Inv-loop μ-loop) → length (take 8192 (noted c)) ≡ 8192
-front-long c = length-take-le 8192 (noted c) (noted-long c)
+front-long : (c : tie.After-slice-known5 Inv-loop μ-loop)
+    → let l = last (turned c .before .before) in length (take l (noted c)) ≡ l
+front-long c = length-take-le (last (turned c .before .before)) (noted c) (noted-long c)
 
 cast-if2 : tie.Need-cast-if2 Inv-loop μ-loop
-cast-if2 c = omega (arith, c .slice-known5 .given (8192 + turned c .before .before .loop .goal))
+cast-if2 c =
+    let l = turned c .before .before in omega (arith, c .slice-known5 .given (last l + l .loop .goal))
 
 cast-scratch : tie.Need-cast-scratch Inv-loop μ-loop
-cast-scratch c = omega (arith, turn (c .before) .few, entry (turned (c .before) .before .before) .pre .0 .few-nodes)
+cast-scratch c =
+    let p = entry (turned (c .before) .before .before) .pre in
+    omega (arith, turn (c .before) .few, p .0 .fits .few-nodes)
 
 add-scratch : tie.Need-add-scratch Inv-loop μ-loop
 add-scratch c = search needs
@@ -156,23 +180,17 @@ reach-requires c κs =
     let t = turn f in
     let long = length-take-le (from + n - from) (drop from (l .loop .waits))
     (omega (arith, length-drop from (l .loop .waits), t .room)) in (
-      (p .0 .few-nodes, (p .0 .few-groups, (p .0 .few-positions, p .0 .long))),
-      (
-        p .0 .index,
-        (
-          p .1 .0,
-          (
-            (
-              long ∙ omega arith,
-              (
-                omega (arith, p .0 .few-nodes, aim .kept .1 .1 .1 .1 .0, l .loop .inv .1),
-                (p .1 .1 .1 .0 .0, omega (arith, p .0 .few-groups, front-long f)),
-              ),
-            ),
-            (t .size, t .sifted),
-          ),
-        ),
-      ),
+      record {
+        fits = p .0 .fits;
+        index = p .0 .index;
+        sized = p .1 .0;
+        member-long = p .1 .1 .1 .0 .0;
+        counts-long = omega (arith, wide l, front-long f);
+        queue-long = omega (arith, p .0 .fits .few-nodes, aim .kept .1 .1 .1 .1 .0, l .loop .inv .1);
+        number = t .size;
+        sifted = t .sifted;
+      },
+      long ∙ omega arith,
     )
 
 add-goal : tie.Need-add-goal Inv-loop μ-loop
@@ -188,22 +206,24 @@ loop-again c =
     let p = entry l .pre in
     let aim = c .before .before .before .before .aim in
     let low = turned (c .before) .if1 .taken in
+    let room : 8 ≤ length (now (entry l .args .scratch)) = omega (arith, wide l) in
     ⊎-elim
     (λ w. (
-      seek-reach _ (p .0) (p .1 .1 .0) (p .1 .1 .1 .0 .1) (l .loop .inv .0) low (aim .ensures .0) _
+      seek-reach _ (p .0) (p .1 .1 .0) (p .1 .1 .1 .0 .1) (l .loop .inv .0) low (aim .ensures .0) room _
           (w .4 .last .1 .1 .1 .1 .0) (w .4 .last .1 .1 .1 .1 .1 .0) (p .1 .1 .1 .1 .1 .0) (aim .ensures .1)
           (w .4 .kept .1 .1 .1 .1 .0 ∙ front-long (c .before)) (w .4 .ensures) (w .11) (w .12),
       ap length (w .13) ∙ (w .4 .kept .1 .1 .1 .1 .1 .1 .0 ∙ (aim .kept .1 .1 .1 .1 .0 ∙ l .loop .inv .1)),
     ))
     (λ w. (
       rw (w .1, w .2)
-          (seek-skip _ (p .0) (p .1 .1 .0) (p .1 .1 .1 .0 .1) (l .loop .inv .0) low (aim .ensures .0) (w .0 .left)),
+          (seek-skip _ (p .0) (p .1 .1 .0) (p .1 .1 .1 .0 .1) (l .loop .inv .0) low (aim .ensures .0) room
+          (w .0 .left)),
       ap length (w .3) ∙ (aim .kept .1 .1 .1 .1 .0 ∙ l .loop .inv .1),
     ))
     (c .if2 .came)
 
 same-length : tie.Need-same-length Inv-loop μ-loop
-same-length c = c .before .before .loop .inv .0 .long ∙ sym (entry (c .before .before) .pre .1 .1 .1 .1 .0)
+same-length c = c .before .before .loop .inv .0 .long
 
 same-length-2 : tie.Need-same-length-2 Inv-loop μ-loop
 same-length-2 c = c .before .before .loop .inv .0 .rest .long
@@ -220,8 +240,11 @@ seek-spec =
     (tie.spec
     Inv-loop
     μ-loop
+    sub-labels
+    sub-last
     loop-holds
     add-aim
+    mul-aim
     sub-aim
     part-aim-start
     part-aim-end

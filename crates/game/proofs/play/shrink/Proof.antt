@@ -11,9 +11,7 @@ use lib.Seq.{length-take-le}
 use Rattle.statements.specs.Sets.{isIn}
 use Rattle.sets.proofs.Members.{filter-holds}
 use Rattle.sets.proofs.Iterate.{sifted-below}
-use Rattle.game.specs.Packed.{part, groupsIn, revIn, startsIn}
 use Rattle.game.specs.Cuts.{waitsAll}
-use Rattle.game.proofs.Begun.{starts-nodes}
 use Rattle.game.proofs.Plays.{front-few, front-left, struck}
 use Rattle.game.proofs.play.shrink.Statement.{statement}
 use Rattle.game.proofs.play.shrink.Tie as tie
@@ -22,8 +20,8 @@ use Rattle.game.proofs.play.shrink.Tie as tie
 abbrev entry : tie.After-cut-arg2 → tie.Start
 entry c = c .before .before .before .before .before .before .before .before .before
 
-abbrev cut-at : tie.After-strike-arg3 → tie.After-cut
-cut-at c = c .before .before .before .before .before .before .before
+abbrev cut-at : tie.After-strike-in-arg4 → tie.After-cut
+cut-at c = c .before .before .before .before .before .before .before .before
 
 -- the list is cut down
 left-less : (c : tie.After-cut) → c .cut .result ≤ entry (c .before) .args .game .kept
@@ -45,72 +43,34 @@ cut-requires c κs =
     let set = s .pre .1 .0 in (
       (set .0, room c),
       (
-        (ready .few-nodes, (ready .few-goals, s .pre .1 .1 .0 .0)),
+        (ready .fits .few-nodes, (ready .few-goals, s .pre .1 .1 .0 .0)),
         sifted-below (s .args .game .nodes) (take (s .args .game .kept) (now (s .args .list))) (set .1),
       ),
     )
 
-add-strike : tie.Need-add-strike
-add-strike c = search needs
+sub-strike-in : tie.Need-sub-strike-in
+sub-strike-in c = left-less (c .before .before .before .before)
 
-sub-strike : tie.Need-sub-strike
-sub-strike c = search needs
-
-part-strike-start : tie.Need-part-strike-start
-part-strike-start c = search needs
-
-part-strike-end : tie.Need-part-strike-end
-part-strike-end c = search needs
-
-add-strike-2 : tie.Need-add-strike-2
-add-strike-2 c = search needs
-
-add-strike-3 : tie.Need-add-strike-3
-add-strike-3 c = search needs
-
-sub-strike-2 : tie.Need-sub-strike-2
-sub-strike-2 c = search needs
-
-part-strike-start-2 : tie.Need-part-strike-start-2
-part-strike-start-2 c = search needs
-
-part-strike-end-2 : tie.Need-part-strike-end-2
-part-strike-end-2 c = search needs
-
-slice-aggregate-strike : tie.Need-slice-aggregate-strike
-slice-aggregate-strike c =
-    let s = entry (cut-at c .before) in
-    sym (length-take-le (s .args .game .groups) (now (s .args .graph))
-    (omega (arith, s .pre .0 .few-groups, s .pre .0 .long)))
-
-sub-strike-3 : tie.Need-sub-strike-3
-sub-strike-3 c = left-less (cut-at c)
-
-slice-reshare-prefix-strike : tie.Need-slice-reshare-prefix-strike
-slice-reshare-prefix-strike c =
-    let t = cut-at c in
+slice-reshare-prefix-strike-in : tie.Need-slice-reshare-prefix-strike-in
+slice-reshare-prefix-strike-in c =
+    let t = c .before .before .before .before in
     omega (arith, room (t .before), t .cut .kept .1 .1 .1 .1 .1 .0)
 
-slice-aggregate-strike-2 : tie.Need-slice-aggregate-strike-2
-slice-aggregate-strike-2 c =
-    let t = cut-at (c .before) in
-    sym (length-take-le _ _ (omega (arith, room (t .before), t .cut .kept .1 .1 .1 .1 .1 .0)))
+slice-aggregate-strike-in : tie.Need-slice-aggregate-strike-in
+slice-aggregate-strike-in c = sym (length-take-le _ _ (slice-reshare-prefix-strike-in (c .before)))
 
-strike-requires : tie.Need-strike-requires
-unfolding part groupsIn revIn startsIn
-strike-requires c κs =
-    let t = cut-at (c .before .before .before .before) in
+strike-in-requires : tie.Need-strike-in-requires
+strike-in-requires c κs =
+    let t = cut-at c in
     let s = entry (t .before) in
-    let ready = s .pre .0 in
     let game = s .args .game in
     let set = take (game .kept) (now (s .args .list)) in
     let cut-away : ℕ → Bool = λ x. not (waitsAll (now (s .args .waits)) (game .nodes) (game .goals) x) in (
-      ready .index,
+      s .pre .0,
       (
         λ x m.
             let there = subst (λ (l : List ℕ). isIn x l ≡ true) (t .cut .ensures .1 .1) m in
-            let low = sifted-below (game .nodes) set (s .pre .1 .0 .1) x (filter-holds cut-away set x there .0) in
-            omega (arith, low, starts-nodes (now (s .args .graph)) (game .nodes) (ready .few-nodes) (ready .long)),
+            sifted-below (game .nodes) set (s .pre .1 .0 .1) x (filter-holds cut-away set x there .0),
         (set, s .pre .1 .1 .1),
       ),
     )
@@ -131,10 +91,9 @@ same-length-5 : tie.Need-same-length-5
 same-length-5 c = search needs
 
 returns : tie.Need-returns
-unfolding part groupsIn revIn startsIn
 returns c =
     let strike = c .before .before .before .before .before .before in
-    let t = cut-at (strike .before .before .before .before .before) in
+    let t = cut-at (strike .before) in
     let s = entry (t .before) in
     let game = s .args .game in
     let set = take (game .kept) (now (s .args .list)) in
@@ -143,7 +102,7 @@ returns c =
       (
         done .1 .0,
         struck _ _ _ set _ _ _ _ _ (waitsAll (now (s .args .waits)) (game .nodes) (game .goals))
-            (done .1 .1) (done .1 .0) (strike .strike .ensures set (s .pre .1 .1 .1)),
+            (done .1 .1) (done .1 .0) (strike .strike-in .ensures set (s .pre .1 .1 .1)),
       ),
     )
 
@@ -152,20 +111,10 @@ shrink-spec =
     tie.close
     (tie.spec
     cut-requires
-    add-strike
-    sub-strike
-    part-strike-start
-    part-strike-end
-    add-strike-2
-    add-strike-3
-    sub-strike-2
-    part-strike-start-2
-    part-strike-end-2
-    slice-aggregate-strike
-    sub-strike-3
-    slice-reshare-prefix-strike
-    slice-aggregate-strike-2
-    strike-requires
+    sub-strike-in
+    slice-reshare-prefix-strike-in
+    slice-aggregate-strike-in
+    strike-in-requires
     same-length
     same-length-2
     same-length-3

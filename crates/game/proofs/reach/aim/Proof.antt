@@ -48,6 +48,12 @@ room c =
 cast-x : tie.Need-cast-x Inv-loop μ-loop
 cast-x c = omega (arith, c .shared-slice-known4 .given (c .before .before .loop .k))
 
+mul-queue : tie.Need-mul-queue Inv-loop μ-loop
+mul-queue c = omega (arith, room (c .before))
+
+slice-write-queue : tie.Need-slice-write-queue Inv-loop μ-loop
+slice-write-queue c = room (c .before) .0
+
 mul-begins : tie.Need-mul-begins Inv-loop μ-loop
 mul-begins c = omega (arith, c .shared-slice-known4 .given (c .before .before .loop .k))
 
@@ -62,12 +68,6 @@ shared-slice-read-begins-2 c = node (c .before .before .before) .1
 
 begins-requires : tie.Need-begins-requires Inv-loop μ-loop
 begins-requires c κs = c .before .before .before .before .before .before .before .before .before .pre .1 .0
-
-mul-queue : tie.Need-mul-queue Inv-loop μ-loop
-mul-queue c = omega (arith, room (c .before .before .before .before .before))
-
-slice-write-queue : tie.Need-slice-write-queue Inv-loop μ-loop
-slice-write-queue c = room (c .before .before .before .before .before) .0
 
 add-tail : tie.Need-add-tail Inv-loop μ-loop
 add-tail c = omega (arith, room (c .before .before .before .before .before))
@@ -84,11 +84,11 @@ loop-again c =
     let inv = turn .before .loop .inv in
     ⊎-elim
     (λ w.
-    rw (w .1, w .2)
+    rw (w .1)
     (aim-yes _ _ _ _ _ _ inv (turn .loop-test .taken)
     (aims-at _ _ _ _ (c .before .begins .ensures) ∙ w .0 .taken) (room turn .0)))
     (λ w.
-    rw (w .1, w .2)
+    rw (w .1)
     (aim-no _ _ _ _ _ _ inv (turn .loop-test .taken)
     (aims-at _ _ _ _ (c .before .begins .ensures) ∙ w .0 .left)))
     (c .if1 .came)
@@ -113,13 +113,13 @@ aim-spec =
     mul-node
     shared-slice-read-node
     cast-x
+    mul-queue
+    slice-write-queue
     mul-begins
     shared-slice-read-begins
     mul-begins-2
     shared-slice-read-begins-2
     begins-requires
-    mul-queue
-    slice-write-queue
     add-tail
     add-k
     loop-less

@@ -22,19 +22,17 @@ abbrev walked : tie.After-slice-known5 → tie.After-from-line
 walked c = c .before .before .before .before .before
 
 array-borrow-prefix-held : tie.Need-array-borrow-prefix-held
-array-borrow-prefix-held c = entry c .pre .0 .0
+array-borrow-prefix-held c = entry c .pre .0 .fits .few-nodes
 
 slice-aggregate-from-line : tie.Need-slice-aggregate-from-line
 slice-aggregate-from-line c =
     let s = entry (c .before) in
-    sym (length-take-le (s .args .game .nodes) marks (s .pre .0 .0))
+    sym (length-take-le (s .args .game .nodes) marks (s .pre .0 .fits .few-nodes))
 
 from-line-requires : tie.Need-from-line-requires
 from-line-requires c κs =
     let s = entry (c .before .before) in
-    let p = s .pre in
-    let front = front-marks (s .args .game .nodes) 1024 (p .0 .0) in
-    (p .0, (p .1 .0, (p .1 .1 .0, ((front, p .1 .1 .1 .0 .1), p .1 .1 .1 .1))))
+    (s .pre .0, front-marks (s .args .game .nodes) 1024 (s .pre .0 .fits .few-nodes))
 
 array-share-prefix-held : tie.Need-array-share-prefix-held
 array-share-prefix-held c =
@@ -43,7 +41,7 @@ array-share-prefix-held c =
     let n = s .args .game .nodes in
     let waits = w .from-line .last .1 .1 .1 .1 .1 .0 in
     let e = length-front marks waits n (w .from-line .kept .1 .1 .1 .1 .1 .0) in
-    subst (λ (k : ℕ). n ≤ k) (sym e) (s .pre .0 .0)
+    subst (λ (k : ℕ). n ≤ k) (sym e) (s .pre .0 .fits .few-nodes)
 
 slice-aggregate-copy : tie.Need-slice-aggregate-copy
 slice-aggregate-copy c = sym (length-take-le _ _ (array-share-prefix-held (c .before)))
@@ -65,8 +63,8 @@ returns c =
     let w = walked (c .before .before .before .before .before) in
     let s = entry (w .before .before .before) in
     let p = s .pre in
-    let room = length-take-le (s .args .game .nodes) marks (p .0 .0) in
-    front-copied (s .args .game .nodes) _ _ _ (w .from-line .kept .1 .1 .1 .1 .1 .0 ∙ room) (p .1 .1 .1 .0 .0)
+    let room = length-take-le (s .args .game .nodes) marks (p .0 .fits .few-nodes) in
+    front-copied (s .args .game .nodes) _ _ _ (w .from-line .kept .1 .1 .1 .1 .1 .0 ∙ room) (p .1)
     (c .before .before .copy .ensures)
     ∙ w .from-line .ensures
 

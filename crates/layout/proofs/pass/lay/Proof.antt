@@ -1,36 +1,35 @@
 -- `layout::pass::lay` meets its contract. The loop's invariant: the arrows passed are laid out. Assumes nothing.
-use mathlib.Core.Path.{refl, sym, ap₂, _∙_}
+use mathlib.Core.Path.{_≡_, refl, sym, ap₂, _∙_}
 use mathlib.Core.Bool.{true≢false}
-use Prim.Native.Nat.{ℕ, _-_, _≤_, _<_}
+use Prim.Native.Nat.{ℕ, _-_, _≤_}
 use native.Mathlib.Omega.{arith}
-use lib.ListN.{getD}
+use lib.ListN.{length}
 use borrow.Author.Needs.{needs}
-use Rattle.statements.specs.Plants.{plantOf}
+use Rattle.statements.specs.Plants.{word}
 use Rattle.format.specs.Checks.{leastAfter}
 use Rattle.format.proofs.Header.{PlantHead, plant-head, plant-states, plant-moves}
-use Rattle.layout.proofs.Turns.{Spare}
-use Rattle.layout.proofs.Lent.{Room, Same, room-of, same-start, same-turn}
-use Rattle.layout.proofs.Passed.{Passed, Taken, spare, pass-start, pass-refused, pass-again}
-use Rattle.layout.proofs.Passed.{pass-same, pass-small, pass-count, pass-fine, pass-end}
+use Rattle.layout.specs.Passing.{Room}
+use Rattle.layout.proofs.Passed.{Taken, pass-refused, pass-fine, pass-end}
+use Rattle.layout.proofs.Storing.{PassedIn, start-in, group-place, end-place, state-place, small-in, count-in}
+use Rattle.layout.proofs.Storing.{again-in, same-in, room-same}
 use Rattle.layout.proofs.pass.lay.Statement.{statement}
 use Rattle.layout.proofs.pass.lay.Tie as tie
 
 abbrev Inv-loop : tie.InvT-loop
-Inv-loop plant mask first₀ states₀ moves₀ begins₀ ends₀ owners₀ count limit actions k₀ least₀ groups₀ arrows₀
-    first states moves begins ends owners k least groups arrows =
-    (k ≤ count) × PlantHead plant × Room first₀ states₀ moves₀ begins₀ ends₀ owners₀
-    × Same first states moves begins ends owners first₀ states₀ moves₀ begins₀ ends₀ owners₀
-    × Passed plant mask k least groups arrows first states moves begins ends owners
+Inv-loop plant mask table₀ states₀ room count limit actions k₀ least₀ groups₀ arrows₀
+    table states k least groups arrows =
+    (k ≤ count) × PlantHead plant × (length table ≡ length table₀) × (length states ≡ length states₀)
+    × Room (word 3 plant) room table states × PassedIn plant mask k least groups arrows room table states
 
 abbrev μ-loop : tie.MeasureT-loop
-μ-loop plant mask first₀ states₀ moves₀ begins₀ ends₀ owners₀ count limit actions k₀ least₀ groups₀ arrows₀
-    first states moves begins ends owners k least groups arrows =
+μ-loop plant mask table₀ states₀ room count limit actions k₀ least₀ groups₀ arrows₀
+    table states k least groups arrows =
     count - k
 
 -- arrow k, as it is read and checked
 taken : (c : tie.After-least-after Inv-loop μ-loop)
     → let l = c .before .before .before in
-    let a = l .before .before .before .before .before .before .before .before .before .before .before .args in
+    let a = l .before .before .before .before .before .before .before .args in
     Taken (a .plant .now) (l .loop .k) (l .loop .least) (c .before .arrow-at .result) (c .least-after .result)
 taken c =
     let l = c .before .before .before in
@@ -45,42 +44,29 @@ taken c =
           (l .before .number3 .ensures ∙ sym (plant-moves _));
     }
 
--- there is room for it
-place : (c : tie.After-least-after Inv-loop μ-loop)
-    → let l = c .before .before .before .loop in
-    Spare (l .groups) (l .arrows) (l .states) (l .moves) (l .begins) (l .ends) (l .owners)
-place c =
-    let i = c .before .before .before .loop .inv in
-    spare (i .1) (i .2) (i .3) (i .4) (taken c .more)
+-- from where the numbers that it adds are known back to its check, and to the turn's begin
+abbrev checked : tie.After-opens Inv-loop μ-loop → tie.After-least-after Inv-loop μ-loop
+checked c = c .before .before .before
 
--- the numbers that it adds are small
+abbrev turn : tie.After-opens Inv-loop μ-loop → tie.At-loop Inv-loop μ-loop
+turn c = checked c .before .before .before
+
+-- these are small
 small : (c : tie.After-opens Inv-loop μ-loop)
     → let on = c .before .serves .result in
     let new = c .opens .result in
-    (new ≤ on) × (on ≤ 1) × (on - new ≤ c .before .before .before .before .before .before .loop .groups)
+    (new ≤ on) × (on ≤ 1) × (on - new ≤ turn c .loop .groups)
 small c =
-    let done = c .before .before .before in
-    pass-small (done .before .before .before .loop .inv .4) (taken done) (c .before .before .if1 .left) (place done)
-    (c .before .serves .ensures) (c .opens .ensures)
+    let i = turn c .loop .inv in
+    small-in (i .4) (i .5) (taken (checked c)) (c .before .before .if1 .left) (c .before .serves .ensures)
+    (c .opens .ensures)
 
--- and its state's groups so far are few
-counting : (c : tie.After-opens Inv-loop μ-loop)
-    → let l = c .before .before .before .before .before .before in
-    let a = l .before .before .before .before .before .before .before .before .before .before .before .args in
-    let f = c .before .before .before .before .arrow-at .result .from in
-    (f < plantOf (a .plant .now) .states) × (getD (l .loop .first) f 0 ≤ l .loop .groups)
-counting c =
-    let done = c .before .before .before in
-    pass-count (done .before .before .before .loop .inv .4) (taken done) (c .before .before .if1 .left) (place done)
-    (c .before .serves .ensures) (c .opens .ensures)
-
--- from where its end is stored back to where these numbers are known
-abbrev opened : tie.After-append-arg2 Inv-loop μ-loop → tie.After-opens Inv-loop μ-loop
+-- from where an end is stored back to where they are known, and from the end of the turn
+abbrev opened : tie.After-append-arg Inv-loop μ-loop → tie.After-opens Inv-loop μ-loop
 opened c = c .before .before .before .before .before .before .before .before .before .before .before .before
 
--- and from the end of the turn back to where its end is stored
-abbrev stored : tie.After-slice-known12 Inv-loop μ-loop → tie.After-append-arg2 Inv-loop μ-loop
-stored c = c .before .before .before .before .before .before .before .before .before
+abbrev added : tie.After-slice-known6 Inv-loop μ-loop → tie.After-opens Inv-loop μ-loop
+added c = opened (c .before .before .before)
 
 number-requires : tie.Need-number-requires Inv-loop μ-loop
 number-requires c κs = search needs
@@ -93,13 +79,9 @@ number-requires-3 c κs = search needs
 
 loop-holds : tie.Need-loop-holds Inv-loop μ-loop
 loop-holds c =
-    let s = c .before .before .before .before .before .before .before .before .before .before in (
-      omega arith,
-      plant-head _ (s .pre .0),
-      room-of _ _ _ _ _ _ (s .pre .1 .0),
-      same-start _ _ _ _ _ _,
-      pass-start _ _ _ _ _ _ _ _ (s .pre .1 .1),
-    )
+    let s = c .before .before .before .before .before .before in
+    let head = plant-head _ (s .pre .0) in
+    (omega arith, head, refl, refl, s .pre .1 .0, start-in _ _ _ _ _ head (s .pre .1 .1))
 
 arrow-at-requires : tie.Need-arrow-at-requires Inv-loop μ-loop
 arrow-at-requires c κs = search needs
@@ -108,26 +90,14 @@ least-after-requires : tie.Need-least-after-requires Inv-loop μ-loop
 least-after-requires c κs = search needs
 
 same-length : tie.Need-same-length Inv-loop μ-loop
-same-length c = c .before .before .before .before .loop .inv .3 .first-same
+same-length c = c .before .before .before .before .loop .inv .2
 
 same-length-2 : tie.Need-same-length-2 Inv-loop μ-loop
-same-length-2 c = c .before .before .before .before .loop .inv .3 .states-same
-
-same-length-3 : tie.Need-same-length-3 Inv-loop μ-loop
-same-length-3 c = c .before .before .before .before .loop .inv .3 .moves-same
-
-same-length-4 : tie.Need-same-length-4 Inv-loop μ-loop
-same-length-4 c = c .before .before .before .before .loop .inv .3 .begins-same
-
-same-length-5 : tie.Need-same-length-5 Inv-loop μ-loop
-same-length-5 c = c .before .before .before .before .loop .inv .3 .ends-same
-
-same-length-6 : tie.Need-same-length-6 Inv-loop μ-loop
-same-length-6 c = c .before .before .before .before .loop .inv .3 .owners-same
+same-length-2 c = c .before .before .before .before .loop .inv .3
 
 returns : tie.Need-returns Inv-loop μ-loop
 returns c = (
-  sym (pass-refused (c .before .before .before .before .loop .inv .4) (taken (c .before)) (c .if1 .taken)),
+  sym (pass-refused (c .before .before .before .before .loop .inv .5) (taken (c .before)) (c .if1 .taken)),
   (λ _. (refl, refl), λ e. absurd (true≢false (sym e))),
 )
 
@@ -137,10 +107,22 @@ serves-requires c κs = search needs
 opens-requires : tie.Need-opens-requires Inv-loop μ-loop
 opens-requires c κs = search needs
 
+add-requires : tie.Need-add-requires Inv-loop μ-loop
+add-requires c κs =
+    let o = c .before in
+    let i = turn o .loop .inv in
+    let few =
+    count-in (i .4) (i .5) (taken (checked o)) (o .before .before .if1 .left) (o .before .serves .ensures)
+    (o .opens .ensures) in
+    (omega (arith, few .0, i .4 .table-long), few .1)
+
 open-requires : tie.Need-open-requires Inv-loop μ-loop
 open-requires c κs =
-    let room = place (c .before .before .before .before .before .before) in
-    (room .states-long, (room .moves-long, room .begins-long))
+    let o = c .before .before .before .before .before .before in
+    let i = turn o .loop .inv in
+    let t = taken (checked o) in
+    let long = c .before .before .before .before .add .kept .0 in
+    ((omega (arith, long, i .4 .table-long), group-place (i .4) (i .5) t), state-place (i .4) (i .5) t)
 
 sub-append : tie.Need-sub-append Inv-loop μ-loop
 sub-append c = omega (arith, small (opened c))
@@ -150,95 +132,62 @@ sub-append-2 c = omega (arith, small (opened c))
 
 append-requires : tie.Need-append-requires Inv-loop μ-loop
 append-requires c κs =
-    let room = place (opened c .before .before .before) in
-    (room .ends-long, room .owners-long)
-
-add-requires : tie.Need-add-requires Inv-loop μ-loop
-add-requires c κs =
-    let o = opened (c .before .before .before .before .before .before) in
-    let l = o .before .before .before .before .before .before in
-    let i = l .loop .inv in
-    let a = l .before .before .before .before .before .before .before .before .before .before .before .args in (
-      omega (
-        arith,
-        counting o,
-        plant-states (a .plant .now),
-        i .1 .sizes .states-most,
-        i .2 .first-long,
-        i .3 .first-same,
-      ),
-      omega (
-        arith,
-        counting o,
-        small o,
-        place (o .before .before .before) .moves-long,
-        i .4 .laid .groups-few,
-        i .4 .many,
-        i .1 .arrows-most,
-        taken (o .before .before .before) .more,
-      ),
-    )
+    let o = opened c in
+    let i = turn o .loop .inv in
+    let long = c .before .before .before .before .before .before .before .before .before .before .add .kept .0 in
+    let long′ = c .before .before .before .before .before .open .kept .0 in
+    (omega (arith, long, long′, i .4 .table-long), end-place (i .4) (i .5) (taken (checked o)))
 
 add-groups : tie.Need-add-groups Inv-loop μ-loop
 add-groups c =
-    let o = opened (stored c) in
-    let i = o .before .before .before .before .before .before .loop .inv in
-    omega (arith, small o, i .4 .laid .groups-few, i .4 .laid .arrows-few, i .4 .many)
+    let o = added c in
+    let i = turn o .loop .inv in
+    omega (arith, small o, i .5 .laid .groups-few, i .5 .many, taken (checked o) .more, i .1 .arrows-most)
 
 add-arrows : tie.Need-add-arrows Inv-loop μ-loop
 add-arrows c =
-    let o = opened (stored c) in
-    let i = o .before .before .before .before .before .before .loop .inv in
-    omega (arith, small o, i .4 .laid .groups-few, i .4 .laid .arrows-few, i .4 .many)
+    let o = added c in
+    let i = turn o .loop .inv in
+    omega (arith, small o, i .5 .laid .arrows-few, i .5 .many, taken (checked o) .more, i .1 .arrows-most)
 
 add-k : tie.Need-add-k Inv-loop μ-loop
 add-k c =
-    let done = opened (stored c) .before .before .before in
-    omega (arith, taken done .more, done .before .before .before .loop .inv .1 .arrows-most)
+    let o = added c in
+    omega (arith, taken (checked o) .more, turn o .loop .inv .1 .arrows-most)
 
 loop-less : tie.Need-loop-less Inv-loop μ-loop
 loop-less c = omega arith
 
 loop-again : tie.Need-loop-again Inv-loop μ-loop
 loop-again c =
-    let o = opened (stored c) in
-    let done = o .before .before .before in
-    let i = done .before .before .before .loop .inv in
+    let o = added c in
+    let i = turn o .loop .inv in
+    let t = taken (checked o) in
+    let ok = o .before .before .if1 .left in
     let on = o .before .serves .ensures in
     let new = o .opens .ensures in
-    let ok = o .before .before .if1 .left in
-    let w = stored c .before .before .before .before .before .before .before .before .open .ensures in
-    let e = c .before .before .before .before .before .before .before .before .append .ensures in
-    let f = c .before .before .add .ensures in (
+    let end = c .before .before .before in
+    let first = end .before .before .before .before .before .before .before .before .before .before .add .ensures in
+    let group = end .before .before .before .before .before .open .ensures in
+    let last = c .before .before .append .ensures in
+    let same = same-in (i .4) (i .5) t ok on new first (group .0) (group .1) last in (
       omega arith,
       i .1,
-      i .2,
-      same-turn (i .3)
-          (pass-same (i .4) (taken done) ok (place done) on new f (w .0) (w .1 .0) (w .1 .1) (e .0) (e .1)),
-      pass-again (i .4) (taken done) ok (place done) on new f (w .0) (w .1 .0) (w .1 .1) (e .0) (e .1),
+      same .0 ∙ i .2,
+      same .1 ∙ i .3,
+      room-same (i .4) (same .0) (same .1),
+      again-in (i .4) (i .5) t ok on new first (group .0) (group .1) last,
     )
 
-same-length-7 : tie.Need-same-length-7 Inv-loop μ-loop
-same-length-7 c = c .before .loop .inv .3 .first-same
+same-length-3 : tie.Need-same-length-3 Inv-loop μ-loop
+same-length-3 c = c .before .loop .inv .2
 
-same-length-8 : tie.Need-same-length-8 Inv-loop μ-loop
-same-length-8 c = c .before .loop .inv .3 .states-same
-
-same-length-9 : tie.Need-same-length-9 Inv-loop μ-loop
-same-length-9 c = c .before .loop .inv .3 .moves-same
-
-same-length-10 : tie.Need-same-length-10 Inv-loop μ-loop
-same-length-10 c = c .before .loop .inv .3 .begins-same
-
-same-length-11 : tie.Need-same-length-11 Inv-loop μ-loop
-same-length-11 c = c .before .loop .inv .3 .ends-same
-
-same-length-12 : tie.Need-same-length-12 Inv-loop μ-loop
-same-length-12 c = c .before .loop .inv .3 .owners-same
+same-length-4 : tie.Need-same-length-4 Inv-loop μ-loop
+same-length-4 c = c .before .loop .inv .3
 
 returns-2 : tie.Need-returns-2 Inv-loop μ-loop
 returns-2 c =
-    let passed = c .before .loop .inv .4 in
+    let passed = c .before .loop .inv .5 in
     let end = rw (c .before .before .before .before .number .ensures) at (c .loop-test .left) in
     (sym (pass-fine passed end), (λ e. absurd (true≢false e), λ _. pass-end passed end))
 
@@ -256,27 +205,19 @@ lay-spec =
     least-after-requires
     same-length
     same-length-2
-    same-length-3
-    same-length-4
-    same-length-5
-    same-length-6
     returns
     serves-requires
     opens-requires
+    add-requires
     open-requires
     sub-append
     sub-append-2
     append-requires
-    add-requires
     add-groups
     add-arrows
     add-k
     loop-less
     loop-again
-    same-length-7
-    same-length-8
-    same-length-9
-    same-length-10
-    same-length-11
-    same-length-12
+    same-length-3
+    same-length-4
     returns-2)

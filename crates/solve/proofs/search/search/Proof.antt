@@ -10,24 +10,25 @@ use Rattle.statements.specs.Plants.{plantOf, moveInto, movesInto}
 use Rattle.kept.proofs.Moves.{moves-lowest}
 use Rattle.decoding.proofs.Faults.{plant-ok}
 use Rattle.solve.specs.Given.{below}
+use Rattle.solve.specs.Tabled.{movesAt, endsAt}
 use Rattle.solve.proofs.Searching as laws
 use Rattle.solve.proofs.Searching.{Sought, Left, Ends}
 use Rattle.solve.proofs.search.search.Statement.{statement}
 use Rattle.solve.proofs.search.search.Tie as tie
 
 abbrev Inv-loop : tie.InvT-loop
-Inv-loop plant mask table _ waits limit state _ g₀ last _ stop g at =
+Inv-loop plant mask table _ waits limit state _ _ _ _ g₀ last _ stop g at =
     (g ≡ g₀) × Ends (plantOf plant) mask (below waits limit (plantOf plant .states)) state last g stop at
 
 abbrev μ-loop : tie.MeasureT-loop
-μ-loop _ _ _ _ _ _ _ _ _ _ _ stop _ at = stop - at
+μ-loop _ _ _ _ _ _ _ _ _ _ _ _ _ _ stop _ at = stop - at
 
 abbrev Inv-moves : tie.InvT-moves
-Inv-moves plant mask table _ waits limit state _ _ last g =
+Inv-moves plant mask table _ waits limit state _ _ _ _ _ last g =
     Left (plantOf plant) mask (below waits limit (plantOf plant .states)) state last g
 
 abbrev μ-moves : tie.MeasureT-moves
-μ-moves _ _ _ _ _ _ _ _ _ last g = last - g
+μ-moves _ _ _ _ _ _ _ _ _ _ _ _ last g = last - g
 
 -- the function's entry, seen from a group
 abbrev entry : tie.At-moves Inv-loop μ-loop Inv-moves μ-moves → tie.Start Inv-loop μ-loop Inv-moves μ-moves
@@ -56,18 +57,31 @@ bounds-in c = laws.left-in (sought (entry (c .before))) (c .before .moves .inv) 
 
 -- and so does the move
 move-in : (c : tie.At-loop Inv-loop μ-loop Inv-moves μ-moves)
-    → 9218 + c .loop .g < length (start c .args .table .now)
+    → movesAt (start c .args .table .now) + c .loop .g < length (start c .args .table .now)
 move-in c = laws.ends-move-in (sought (start c)) (c .loop .inv .1)
 
 -- and an end, which is a state
 end-in : (c : tie.Else2 Inv-loop μ-loop Inv-moves μ-moves)
-    → 17410 + c .before .loop .at < length (start (c .before) .args .table .now)
+    → endsAt (start (c .before) .args .table .now) + c .before .loop .at
+    < length (start (c .before) .args .table .now)
 end-in c = laws.ends-in (sought (start (c .before))) (c .before .loop .inv .1) (c .if2 .left)
 
 end-state : (c : tie.Else2 Inv-loop μ-loop Inv-moves μ-moves)
     → let a = start (c .before) .args in
-    getD (a .table .now) (17410 + c .before .loop .at) 0 < plantOf (a .plant .now) .states
+    getD (a .table .now) (endsAt (a .table .now) + c .before .loop .at) 0 < plantOf (a .plant .now) .states
 end-state c = laws.ends-state (sought (start (c .before))) (c .before .loop .inv .1) (c .if2 .left)
+
+sub-room : tie.Need-sub-room Inv-loop μ-loop Inv-moves μ-moves
+sub-room c = c .pre .0 .table-is .long
+
+add-moves : tie.Need-add-moves Inv-loop μ-loop Inv-moves μ-moves
+add-moves c = omega arith
+
+mul-ends : tie.Need-mul-ends Inv-loop μ-loop Inv-moves μ-moves
+mul-ends c = omega arith
+
+add-ends : tie.Need-add-ends Inv-loop μ-loop Inv-moves μ-moves
+add-ends c = omega arith
 
 mul-g : tie.Need-mul-g Inv-loop μ-loop Inv-moves μ-moves
 mul-g c = omega arith
@@ -141,10 +155,10 @@ shared-slice-read-end : tie.Need-shared-slice-read-end Inv-loop μ-loop Inv-move
 shared-slice-read-end c = end-in (c .before)
 
 cast-end : tie.Need-cast-end Inv-loop μ-loop Inv-moves μ-moves
-cast-end c = omega (arith, c .shared-slice-known6 .given (17410 + c .before .before .loop .at))
+cast-end c = omega (arith, c .shared-slice-known6 .given (endsAt (start (c .before .before) .args .table .now) + c .before .before .loop .at))
 
 mul-if3 : tie.Need-mul-if3 Inv-loop μ-loop Inv-moves μ-moves
-mul-if3 c = omega (arith, c .shared-slice-known6 .given (17410 + c .before .before .loop .at))
+mul-if3 c = omega (arith, c .shared-slice-known6 .given (endsAt (start (c .before .before) .args .table .now) + c .before .before .loop .at))
 
 shared-slice-read-if3 : tie.Need-shared-slice-read-if3 Inv-loop μ-loop Inv-moves μ-moves
 shared-slice-read-if3 c =
@@ -163,7 +177,7 @@ moves-again : tie.Need-moves-again Inv-loop μ-loop Inv-moves μ-moves
 moves-again c =
     let e = c .before .before .before in
     let s = start (e .before) in
-    let y = getD (s .args .table .now) (17410 + e .before .loop .at) 0 in
+    let y = getD (s .args .table .now) (endsAt (s .args .table .now) + e .before .loop .at) 0 in
     let high : s .args .limit ≤ getD (s .args .waits .now) y 0 = omega (arith, c .if3 .taken) in
     laws.ends-fail (sought s) (e .before .loop .inv .1) (e .if2 .left)
     (laws.below-test (s .args .waits .now) (s .args .limit) _ y (end-state e) ∙ le-ltb _ _ high)
@@ -178,7 +192,7 @@ loop-again : tie.Need-loop-again Inv-loop μ-loop Inv-moves μ-moves
 loop-again c =
     let e = c .before .before .before in
     let s = start (e .before) in
-    let y = getD (s .args .table .now) (17410 + e .before .loop .at) 0 in
+    let y = getD (s .args .table .now) (endsAt (s .args .table .now) + e .before .loop .at) 0 in
     let low : getD (s .args .waits .now) y 0 < s .args .limit = omega (arith, c .if3 .left) in (
       e .before .loop .inv .0,
       laws.ends-pass (sought s) (e .before .loop .inv .1) (e .if2 .left)
@@ -213,6 +227,10 @@ search-spec =
     μ-loop
     Inv-moves
     μ-moves
+    sub-room
+    add-moves
+    mul-ends
+    add-ends
     mul-g
     shared-slice-read-g
     cast-g

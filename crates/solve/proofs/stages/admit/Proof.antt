@@ -1,6 +1,6 @@
 -- `solve::stages::admit` meets its contract: after k turns it is met for the first k states of the start.
 -- Assumes nothing.
-use mathlib.Core.Path.{_≡_, refl, _∙_}
+use mathlib.Core.Path.{_≡_, refl, sym, ap, _∙_}
 use mathlib.Core.Logic.{⊎-elim}
 use mathlib.Core.List.{[], _∷_, _++_}
 use Prim.Native.Nat.{ℕ, _+_, _≤_, _<_, _-_}
@@ -14,9 +14,8 @@ use Rattle.statements.specs.Plants.{plantOf}
 use Rattle.sets.proofs.Members.{filter-length}
 use Rattle.sets.proofs.Iterate.{sifted-below}
 use Rattle.decoding.proofs.Faults.{plant-ok}
-use Rattle.graph.proofs.Links.{arrows-few}
 use Rattle.solve.specs.Given.{below}
-use Rattle.solve.specs.Graphed.{Graphed, Exits}
+use Rattle.solve.specs.Graphed.{Graphed, Exits, labelAt}
 use Rattle.solve.specs.Stages.{passing, Opened}
 use Rattle.solve.proofs.Lasts.{isIn-at}
 use Rattle.solve.proofs.StageTurns as laws
@@ -25,14 +24,14 @@ use Rattle.solve.proofs.stages.admit.Statement.{statement}
 use Rattle.solve.proofs.stages.admit.Tie as tie
 
 abbrev Inv-loop : tie.InvT-loop
-Inv-loop plant frame table start stage leave₀ all₀ graph₀ none k₀ count₀ leave all graph k count =
+Inv-loop plant frame table start stage leave₀ all₀ graph₀ none labels k₀ count₀ leave all graph k count =
     (k ≤ length start) × (length leave ≡ length leave₀) × (length all ≡ length all₀) × (length graph ≡ length graph₀)
     × Opened (plantOf plant) (frame .mask) (take k start) (below stage 65535 (plantOf plant .states)) leave all count
     × Graphed (plantOf plant) (frame .mask) (frame .groups) (frame .positions) graph
     × Exits (plantOf plant) leave (take k start) graph
 
 abbrev μ-loop : tie.MeasureT-loop
-μ-loop plant frame table start stage leave₀ all₀ graph₀ none k₀ count₀ leave all graph k count = length start - k
+μ-loop plant frame table start stage leave₀ all₀ graph₀ none labels k₀ count₀ leave all graph k count = length start - k
 
 -- the function's entry, and the state read, seen from a turn
 abbrev entry : tie.In-loop Inv-loop μ-loop → tie.Start Inv-loop μ-loop
@@ -61,8 +60,13 @@ small c =
 move-room : (c : tie.In-loop Inv-loop μ-loop) → state c < length (c .before .loop .leave)
 move-room c = omega (arith, in-range c, entry c .pre .1 .1 .0 .1, c .before .loop .inv .1)
 
-label-room : (c : tie.In-loop Inv-loop μ-loop) → 17409 + state c < length (c .before .loop .graph)
-label-room c = omega (arith, small c, c .before .loop .inv .5 .long)
+label-room : (c : tie.In-loop Inv-loop μ-loop) → labelAt (entry c .args .graph .now) (state c) < length (c .before .loop .graph)
+label-room c = omega (arith, small c, c .before .loop .inv .5 .long, c .before .loop .inv .3)
+
+-- which is where the array says
+label-here : (c : tie.In-loop Inv-loop μ-loop)
+    → labelAt (entry c .args .graph .now) (state c) ≡ labelAt (c .before .loop .graph) (state c)
+label-here c = ap (λ (n : ℕ). n - 1024 + state c) (sym (c .before .loop .inv .3))
 
 -- no more states are listed than read
 few : (c : tie.In-loop Inv-loop μ-loop) → c .before .loop .count < length (c .before .loop .all)
@@ -80,6 +84,9 @@ few c =
       length-take-le (l .k) start (l .inv .0),
       entry c .pre .1 .1 .0 .2,
     )
+
+sub-labels : tie.Need-sub-labels Inv-loop μ-loop
+sub-labels c = omega (arith, c .before .before .before .before .before .before .before .pre .1 .1 .1 .long)
 
 loop-holds : tie.Need-loop-holds Inv-loop μ-loop
 loop-holds c =
@@ -173,17 +180,17 @@ loop-again c =
     (λ no. laws.opened-no (l .inv .4) (state t) (move-room t) (away .ensures .0) settled (given .none-is)
     (no .0 .left) (no .1) (no .2))
     (c .if1 .came) in
-    let ok = plant-ok plant (given .accepted) in
-    let arrows = arrows-few plant (given .accepted) in (
+    let ok = plant-ok plant (given .accepted) in (
       omega (arith, t .loop-test .taken),
       length-set (l .leave) (state t) _ ∙ l .inv .1,
       turn .0 ∙ l .inv .2,
-      length-set (l .graph) (17409 + state t) _ ∙ l .inv .3,
+      length-set (l .graph) _ _ ∙ l .inv .3,
       rw more (turn .1),
-      exits.graphed-marked ok arrows (l .inv .5) (state t) (in-range t)
-          (ltb (away .result) (s .args .frame .none)) mark,
-      rw more (exits.exits-more ok arrows (l .inv .5) (state t) (in-range t) (l .leave) (take (l .k) start) (l .inv .6)
-          (away .result) (given .none-is) (move-room t) mark),
+      exits.graphed-marked ok (l .inv .5) (state t) (in-range t) (ltb (away .result) (s .args .frame .none))
+          (label-here t) mark,
+      rw more (exits.exits-more ok (l .inv .5) (state t) (in-range t) (ltb (away .result) (s .args .frame .none))
+          (label-here t) mark (l .leave) (take (l .k) start) (l .inv .6) (away .result) (given .none-is) (move-room t)
+          refl),
     )
 
 same-length : tie.Need-same-length Inv-loop μ-loop
@@ -208,6 +215,7 @@ admit-spec =
     (tie.spec
     Inv-loop
     μ-loop
+    sub-labels
     loop-holds
     mul-state
     shared-slice-read-state
