@@ -9,7 +9,7 @@ mod promises;
 
 use planbook::calls::Linked;
 use planbook::compare::{rounds, Comparison};
-use planbook::plants::{Random, FAMILIES, WAYS_TO_SETTLE};
+use planbook::plants::{Family, Random, FAMILIES, WAYS_TO_SETTLE};
 use planbook::second::Fast;
 
 /// Where the seeds of the random rounds begin.
@@ -105,6 +105,29 @@ fn families() {
             for way in WAYS_TO_SETTLE {
                 let model = way.of(family.build(states, SEED), &mut Random::new(SEED));
                 rounds::each_move_in_turn(&mut comparison, &model);
+            }
+        }
+    }
+    println!("{}", comparison.summary());
+}
+
+/// Plants with as many arrows as the library's short arrays have room for, 2,048, and with a few less and more.
+#[test]
+fn around_the_short_arrays() {
+    let mut comparison = Comparison::new(&Linked, &Fast);
+    for arrows in 2046..=2050 {
+        for seed in SEED..SEED + 3 {
+            let mut random = Random::new(seed);
+            let mut model = Family::Random.build(512, seed);
+            model.arrows.sort_unstable();
+            model.arrows.dedup();
+            while model.arrows.len() > arrows {
+                model.arrows.swap_remove(random.below(model.arrows.len()));
+            }
+            assert_eq!(model.arrows.len(), arrows);
+            rounds::each_move_in_turn(&mut comparison, &model);
+            for way in WAYS_TO_SETTLE {
+                rounds::each_move_in_turn(&mut comparison, &way.of(model.clone(), &mut random));
             }
         }
     }

@@ -2,4 +2,5 @@
 pub mod Sieves
 pub mod Marks
 pub mod Guards
+pub mod Gathered
 pub mod Ordered

@@ -2,16 +2,15 @@
 -- nothing.
 use mathlib.Core.Path.{_≡_, refl, sym, ap, _∙_, subst}
 use mathlib.Core.Logic.{_⊎_, ⊎-elim}
-use mathlib.Core.Bool.{Bool, true, false, _&&_}
+use mathlib.Core.Bool.{Bool, true, false, _&&_, and-true as and-all}
 use mathlib.Core.List.{List, [], _∷_}
-use Prim.Native.Nat.{ℕ, zero, suc, _+_, _≤_, _<_}
-use native.Mathlib.Numerals.{add-one}
+use Prim.Native.Nat.{ℕ, zero, suc, _+_, _-_, _≤_, _<_}
+use native.Mathlib.Numerals.{add-one, unary-clauses}
 use native.Mathlib.Omega.{arith}
 use lib.Dec.{leb, ltb}
-use lib.ListN.{length, getD, drop, drop-of-length-le}
-use lib.Seq.{drop-cons}
-use borrow.Author.Tests.{le-leb, lt-leb, leb-true, lt-ltb, le-ltb, ltb-true, ne-eqb}
-use Rattle.statements.specs.Sets.{numbers, isIn, consIf, filter}
+use lib.ListN.{length, getD}
+use borrow.Author.Tests.{le-leb, leb-true, lt-ltb, ltb-true, ne-eqb}
+use Rattle.statements.specs.Sets.{numbers, every, isIn, consIf, filter}
 use Rattle.sets.proofs.Tests.{decided, same-number, and-true, and-left, and-right, and-none}
 use Rattle.sets.proofs.Members.{Sifted, filter-same, filter-holds, numbers-holds, isIn-here, isIn-there, isIn-cases}
 use Rattle.sets.proofs.Members.{isIn-none}
@@ -107,32 +106,57 @@ rising-run-sifted (suc n) x limit (y ∷ ys) e h =
 pub rising-sifted : (n : ℕ) (xs : List ℕ) → rising 0 n xs ≡ true → Sifted (numbers n 0) xs
 rising-sifted n xs h = rising-run-sifted n 0 n xs (omega arith) h
 
--- a loop over the list: the numbers before place k rise below `least`, so that the list rises where the rest does
-module _ (limit : ℕ) (list : List ℕ) (least k : ℕ) (so-far : rising 0 limit list ≡ rising least limit (drop k list))
-  where
-    pub rising-end : length list ≤ k → true ≡ rising 0 limit list
-    unfolding rising
-    rising-end h = sym (so-far ∙ ap (rising least limit) (drop-of-length-le list h))
+-- a number is smaller than the one after it
+abbrev pub climbs : List ℕ → ℕ → Bool
+climbs list k = ltb (getD list k 0) (getD list (k + 1) 0)
 
-    module _ (h : k < length list) where
-      -- the next number counts
-      rising-next : rising 0 limit list
-          ≡ leb least (getD list k 0)
-          && (ltb (getD list k 0) limit && rising (suc (getD list k 0)) limit (drop (suc k) list))
-      unfolding rising
-      rising-next = so-far ∙ ap (rising least limit) (drop-cons list k 0 h)
+-- those of a list after its first number are those of the rest
+climbs-rest : (n a x : ℕ) (xs : List ℕ) → every n (suc a) (climbs (x ∷ xs)) ≡ every n a (climbs xs)
+unfolding every
+climbs-rest zero a x xs = refl
+climbs-rest (suc n) a x xs =
+    rw (add-one (suc a), add-one a)
+    (ap (λ (b : Bool). ltb (getD xs a 0) (getD xs (suc a) 0) && b) (climbs-rest n (suc a) x xs))
 
-      pub rising-no : (getD list k 0 < least) ⊎ (limit ≤ getD list k 0) → false ≡ rising 0 limit list
-      rising-no bad =
-          sym
-          (rising-next
-          ∙ ⊎-elim
-          (λ l. rw (lt-leb least (getD list k 0) l) refl)
-          (λ l. rw (le-ltb (getD list k 0) limit l) (and-none (leb least (getD list k 0)) false refl))
-          bad)
+-- a list whose first number is below its second is below a limit where the rest is
+rising-second : (x limit y : ℕ) (ys : List ℕ) → x < y
+    → (ltb x limit && rising (suc x) limit (y ∷ ys)) ≡ rising (suc x) limit (y ∷ ys)
+rising-second x limit y ys l =
+    ⊎-elim
+    (λ h.
+    let bound = rising-head (suc x) limit y ys h in
+    rw (lt-ltb x limit (omega arith)) refl)
+    (λ h. rw h (and-none (ltb x limit) false refl))
+    (decided (rising (suc x) limit (y ∷ ys)))
 
-      pub rising-yes : least ≤ getD list k 0 → getD list k 0 < limit
-          → rising 0 limit list ≡ rising (getD list k 0 + 1) limit (drop (k + 1) list)
-      rising-yes a b =
-          rising-next
-          ∙ rw (le-leb least (getD list k 0) a, lt-ltb (getD list k 0) limit b, add-one (getD list k 0), add-one k) refl
+-- so a list rises below a limit where each number is smaller than the one after it, and the last is below the limit
+rising-climbs : (least limit x : ℕ) (xs : List ℕ) → least ≤ x
+    → (every (length xs) 0 (climbs (x ∷ xs)) && ltb (getD (x ∷ xs) (length xs) 0) limit)
+    ≡ rising least limit (x ∷ xs)
+unfolding every rising
+rising-climbs least limit x [] h = rw (le-leb least x h) (sym (and-all (ltb x limit)))
+rising-climbs least limit x (y ∷ ys) h =
+    let others = every (length ys) 1 (climbs (x ∷ y ∷ ys)) in
+    let last = ltb (getD (y ∷ ys) (length ys) 0) limit in
+    rw (le-leb least x h)
+    (⊎-elim
+    (λ l.
+    ap (λ (b : Bool). (b && others) && last) l
+    ∙ ap (λ (b : Bool). b && last) (climbs-rest (length ys) 0 x (y ∷ ys))
+    ∙ rising-climbs (suc x) limit y ys (ltb-true x y l)
+    ∙ sym (rising-second x limit y ys (ltb-true x y l)))
+    (λ l.
+    ap (λ (b : Bool). (b && others) && last) l
+    ∙ sym (and-none (ltb x limit) (rising (suc x) limit (y ∷ ys))
+    (ap (λ (b : Bool). b && (ltb y limit && rising (suc y) limit ys)) l)))
+    (decided (ltb x y)))
+
+-- for a list with a number, and for one with none
+pub climbs-rising : (limit : ℕ) (list : List ℕ) → 0 < length list
+    → (every (length list - 1) 0 (climbs list) && ltb (getD list (length list - 1) 0) limit) ≡ rising 0 limit list
+climbs-rising limit [] h = absurd (omega arith)
+climbs-rising limit (x ∷ xs) h = simp unary-clauses (rising-climbs 0 limit x xs (omega arith))
+
+pub rising-empty : (limit : ℕ) (list : List ℕ) → length list ≡ 0 → true ≡ rising 0 limit list
+rising-empty limit [] h = sym (rising-nil 0 limit)
+rising-empty limit (x ∷ xs) h = absurd (omega arith)

@@ -11,21 +11,6 @@ use Rattle.statements.specs.Sets.{consIf, filter, over}
 use Rattle.sets.proofs.Members.{filter-length, filter-snoc}
 use Rattle.sets.proofs.Over.{over-none, over-length, over-back, over-at, over-one}
 
--- what a loop that writes a front leaves
-pub over-done : (xs old new : List ℕ) (n : ℕ) → length xs ≤ length old → n ≡ length xs → new ≡ over xs old
-    → (n ≤ length new) × (take n new ≡ xs)
-over-done xs old new n h en e =
-    let long = ap length e ∙ over-length xs old h in
-    (omega arith, rw e (over-back xs old n en))
-
--- one number more is copied
-pub copy-more : (from old new : List ℕ) (k : ℕ) → k < length from → length from ≤ length old
-    → new ≡ over (take k from) old → set new k (getD from k 0) ≡ over (take (k + 1) from) old
-copy-more from old new k h room e =
-    let n : length (take k from) ≡ k = length-take-le k from (omega arith) in
-    let more = over-one (take k from) old (getD from k 0) (omega arith) in
-    rw (e, add-one, take-suc from k 0 h) (rw n at more)
-
 -- a loop that strikes out of the first `count` numbers of a list those that fail a test: k are read, the ones that
 -- passed stand at the front, and `kept` is how many they are together with those not read yet
 pub record Sieved (f : ℕ → Bool) (count : ℕ) (old new : List ℕ) (kept k : ℕ) : Type 0 where

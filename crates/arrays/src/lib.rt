@@ -31,19 +31,20 @@ pub fn mark(listed: &[u16], to: &mut [u16])
     }
 }
 
-// Whether the numbers of a list strictly rise and are below a limit.
+// Whether the numbers of a list strictly rise and are below a limit: the last is the largest. It goes on past a bad
+// number: a loop with no way out in the middle is compiled to vector code.
 pub fn rises(list: &[u16], limit: usize) -> bool
     ensures { λ r. ⌜ r ≡ rising 0 limit (now (list .entry)) ⌝ }
 {
-    let mut least = 0;
+    if list.len() == 0 {
+        return true;
+    }
+    let n = list.len() - 1;
     let mut k = 0;
-    while k < list.len() {
-        let x = list[k] as usize;
-        if (x < least) | (limit <= x) {
-            return false;
-        }
-        least = x + 1;
+    let mut good = true;
+    while k < n {
+        good = good & (list[k] < list[k + 1]);
         k += 1;
     }
-    true
+    good & ((list[n] as usize) < limit)
 }

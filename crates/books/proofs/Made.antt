@@ -23,7 +23,6 @@ use Rattle.decoding.proofs.Header.{within-length, withdrawn-length}
 use Rattle.decoding.proofs.Sizes.{book-fits}
 use Rattle.arrays.specs.Lists.{among}
 use Rattle.arrays.proofs.Ordered.{filter-rising}
-use Rattle.arrays.proofs.Sieves.{over-done}
 use Rattle.refusals.specs.Ahead.{withdrawAhead}
 use Rattle.refusals.proofs.Ahead.{make-parts, withdraw-passes, passes-states}
 use Rattle.writing.specs.Written.{writable, writtenLong, writtenBook}
@@ -59,15 +58,13 @@ within-written s mask test start o e room =
 
 -- striking out the states that are not allowed leaves the others at the front of the list
 pub struck : (p : Plant) (list new xs old : List ℕ) {count kept : ℕ} → list ≡ over xs old → count ≡ length xs
-    → count ≤ length list → kept ≡ length (filter (allowed p) (take count list))
-    → new ≡ over (filter (allowed p) (take count list)) list
+    → count ≤ length list → length new ≡ length list → kept ≡ length (filter (allowed p) (take count list))
+    → take kept new ≡ filter (allowed p) (take count list)
     → (kept ≤ length new) × (take kept new ≡ filter (allowed p) xs)
-struck p list new xs old {count} {kept} began exact room number e =
+struck p list new xs old {count} began exact room size number e =
     let front : take count list ≡ xs = ap (take count) began ∙ over-back xs old count exact in
     let few = filter-length (allowed p) (take count list) in
-    let left = over-done (filter (allowed p) (take count list)) list new kept
-    (omega (arith, length-take-le count list room)) number e in
-    (left .0, left .1 ∙ ap (filter (allowed p)) front)
+    (omega (arith, length-take-le count list room), e ∙ ap (filter (allowed p)) front)
 
 -- the allowed ones of the states that a book keeps
 kept-before : (p : Plant) (b : List ℕ) → bookStates b ≡ p .states

@@ -50,21 +50,21 @@ pub(crate) fn kept(book: &[u8], list: &mut [u16]) -> usize
 }
 
 // Strikes out the states that are not allowed. Takes the states kept, at the front of a list, and their number; leaves
-// those still kept there, and hands on their number.
+// those still kept there, and hands on their number. Each state is written to its place and counted off again if it is
+// not allowed, so that no branch hangs on it; what stands behind the front at the end is not said.
 pub(crate) fn allowed(plant: &[u8], list: &mut [u16], count: usize) -> usize
     requires room { ⌜ count ≤ length (now list) ⌝ }
     ensures number { λ r. ⌜ r
         ≡ length (filter (allowed (plantOf (now (plant .entry)))) (take count (now (list .entry)))) ⌝ }
-    ensures still { λ _. ⌜ now (list .exit) ≡ over
-        (filter (allowed (plantOf (now (plant .entry)))) (take count (now (list .entry)))) (now (list .entry)) ⌝ }
+    ensures still { λ r. ⌜ take r (now (list .exit))
+        ≡ filter (allowed (plantOf (now (plant .entry)))) (take count (now (list .entry))) ⌝ }
 {
     let mut kept = count;
     let mut k = 0;
     while k < count {
         let state = list[k];
-        if is_allowed(plant, state as u32) {
-            list[k - (count - kept)] = state;
-        } else {
+        list[k - (count - kept)] = state;
+        if !is_allowed(plant, state as u32) {
             kept -= 1;
         }
         k += 1;

@@ -1,22 +1,25 @@
 -- Labels and arrows of a plant one after another: what a loop has left from a place on. Assumes nothing.
 use mathlib.Core.Path.{_≡_, refl, sym, ap, _∙_}
 use mathlib.Core.Bool.{Bool, true, false, _&&_, and-assoc}
+use mathlib.Core.Bool.{and-true as and-yes}
 use mathlib.Core.List.{List, _∷_}
 use Prim.Native.Nat.{ℕ, zero, suc, _+_, _-_, _*_, _^_, _≤_, _<_}
-use native.Mathlib.Nat.{not-suc-le-zero, le-of-suc-le-suc, add-zero}
+use native.Mathlib.Nat.{le-refl, not-suc-le-zero, le-of-suc-le-suc, add-zero}
 use native.Mathlib.Numerals.{add-one}
 use native.Mathlib.Omega.{arith}
 use lib.Dec.{ltb, leb}
-use lib.ListN.{getD, drop, List·getD-eq-default}
-use lib.Seq.{drop-drop}
-use lib.Bits.{bitAnd}
-use Rattle.statements.specs.Sets.{pick}
-use Rattle.statements.specs.Plants.{word, Arrow, words, arrowsFrom, labelsOk, rank, arrowsOk}
+use lib.ListN.{length, getD, take, drop, set, List·getD-eq-default}
+use lib.Seq.{take-all, drop-drop}
+use lib.Bits.{bitAnd, bitOr}
+use Rattle.statements.specs.Sets.{pick, over}
+use Rattle.statements.specs.Plants.{word, Arrow, words, plantOf, arrowsFrom, labelsOk, rank, arrowsOk}
+use Rattle.sets.proofs.Over.{copy-more}
 use Rattle.decoding.proofs.Faults.{words-length}
 use Rattle.format.specs.declared.arrows.Arrow.{Arrow as ReadArrow}
 use Rattle.format.specs.Arrows.{arrowIn}
 use Rattle.format.specs.Checks.{leastAfter}
 use Rattle.format.proofs.Words.{word-further}
+use Rattle.format.proofs.Bits.{low-or, picked-or, low-none}
 
 -- a number that is not 0 is one more than its predecessor
 pub one-less : (n : ℕ) → 0 < n → n ≡ suc (n - 1)
@@ -50,41 +53,57 @@ label-at s at (suc n) (suc x) h =
 pub label-past : (s : List ℕ) (at n x : ℕ) → n ≤ x → getD (words n (drop at s)) x 0 ≡ 0
 label-past s at n x h = List·getD-eq-default (words n (drop at s)) 0 (rw words-length h)
 
--- a loop over labels: while some are left, the next one is tested and the rest stand for all
-module _ (free : Bool) (goals : ℕ) (s : List ℕ) (at left : ℕ) where
-  -- the labels from the place on are in range
-  abbrev All : Bool
-  All = labelsOk free goals (words left (drop at s))
+-- the labels written one after another over the front of a list: one more
+pub labels-put : (s old to : List ℕ) (n x v : ℕ) → x < n → n ≤ length old → to ≡ over (take x (words n (drop 16 s))) old
+    → v ≡ word 0 (drop (16 + 2 * x) s) → set to x v ≡ over (take (x + 1) (words n (drop 16 s))) old
+labels-put s old to n x v h room e is =
+    let labels = words n (drop 16 s) in
+    ap (set to x) (is ∙ sym (label-at s 16 n x h))
+    ∙ copy-more labels old to x (rw words-length h) (rw words-length room) e
 
-  -- the next one is
-  abbrev Next : Bool
-  Next =
-      let l = word 0 (drop at s) in
-      ltb (pick free (l - bitAnd l 512) l) (2 ^ suc goals)
+-- and the last
+pub labels-done : (s old to : List ℕ) {n x : ℕ} → n ≡ word 0 s → x ≡ n → to ≡ over (take x (words n (drop 16 s))) old
+    → to ≡ over (plantOf s .labels) old
+unfolding plantOf
+labels-done s old to {n} {x} en ex e =
+    let labels = words (word 0 s) (drop 16 s) in
+    let long : length labels ≤ word 0 s = rw words-length (le-refl (word 0 s)) in
+    rw (ex, en) at e ∙ ap (λ (ys : List ℕ). over ys old) (take-all (word 0 s) labels long)
 
-  -- those after it are
-  abbrev After : Bool
-  After = labelsOk free goals (words (left - 1) (drop (at + 2) s))
+-- a loop over labels: those joined so far and those from a place on stand for all
+module _ (free : Bool) (goals : ℕ) where
+  -- a label, or several joined, has no bit out of range
+  abbrev pub Low : ℕ → Bool
+  Low l = ltb (pick free (l - bitAnd l 512) l) (2 ^ suc goals)
 
-  -- one turn: the next label, and those after it
-  labels-turn : 0 < left → All ≡ Next && After
-  unfolding labelsOk
-  labels-turn more =
-      ap (λ (n : ℕ). labelsOk free goals (words n (drop at s))) (one-less left more)
-      ∙ ap (labelsOk free goals) (labels-more s at (left - 1))
+  -- two joined have none just when each has none
+  low-joined : (a b : ℕ) → Low (bitOr a b) ≡ Low a && Low b
+  low-joined a b = ap (λ (l : ℕ). ltb l (2 ^ suc goals)) (picked-or free a b) ∙ low-or (suc goals) _ _
 
-  -- the next label is in range
-  pub labels-pass : 0 < left → Next ≡ true → All ≡ After
-  labels-pass more e = labels-turn more ∙ ap (λ (t : Bool). t && After) e
+  module _ (s : List ℕ) where
+    -- the labels from the place on are in range
+    abbrev pub Rest : ℕ → ℕ → Bool
+    Rest at left = labelsOk free goals (words left (drop at s))
 
-  -- it is not
-  pub labels-fail : 0 < left → Next ≡ false → All ≡ false
-  labels-fail more e = labels-turn more ∙ ap (λ (t : Bool). t && After) e
+    -- none is joined
+    pub labels-start : (at left : ℕ) → Rest at left ≡ Low 0 && Rest at left
+    labels-start at left = sym (ap (λ (t : Bool). t && Rest at left) (low-none free (suc goals)))
 
-  -- none is left
-  pub labels-end : left ≤ 0 → All ≡ true
-  unfolding labelsOk words
-  labels-end none = let e : left ≡ 0 = omega arith in rw e
+    -- the next one is joined
+    pub labels-join : (all at left l : ℕ) → 0 < left → l ≡ word 0 (drop at s)
+        → Low all && Rest at left ≡ Low (bitOr all l) && Rest (at + 2) (left - 1)
+    unfolding labelsOk
+    labels-join all at left l more is =
+        ap (λ (n : ℕ). Low all && Rest at n) (one-less left more)
+        ∙ ap (λ (ls : List ℕ). Low all && labelsOk free goals ls)
+        (labels-more s at (left - 1) ∙ ap (λ (x : ℕ). x ∷ words (left - 1) (drop (at + 2) s)) (sym is))
+        ∙ sym (and-assoc (Low all) (Low l) _)
+        ∙ ap (λ (t : Bool). t && Rest (at + 2) (left - 1)) (sym (low-joined all l))
+
+    -- all are joined
+    pub labels-end : (all at left : ℕ) → left ≤ 0 → Low all && Rest at left ≡ Low all
+    unfolding labelsOk words
+    labels-end all at left none = let e : left ≡ 0 = omega arith in rw e (and-yes (Low all))
 
 -- the least rank after an arrow, told from its own rank
 pub least-is : (states moves least : ℕ) (a : ReadArrow) {r : ℕ}

@@ -1,10 +1,16 @@
 -- Parts of the check of a plant: its labels, its arrows, and one arrow after another.
-use mathlib.Core.Bool.{Bool, _&&_}
+use mathlib.Core.Bool.{Bool, _&&_, _||_, not}
+use mathlib.Core.List.{List}
 use Prim.Native.Nat.{ℕ, _+_, _*_}
 use lib.Dec.{ltb, leb}
+use lib.ListN.{length}
 use Rattle.statements.specs.Sets.{pick}
-use Rattle.statements.specs.Plants.{Plant, labelsOk, arrowsOk}
+use Rattle.statements.specs.Plants.{Plant, word, labelsOk, arrowsOk}
 use Rattle.format.specs.declared.arrows.Arrow.{Arrow}
+
+-- the bytes of a plant's labels are there, and a list has room for all of them
+unfoldable pub labelsFit : List ℕ → List ℕ → Bool
+labelsFit s to = not (ltb (length s) (16 + 2 * word 0 s) || ltb (length to) (word 0 s))
 
 -- every label of a plant is in range
 abbrev pub labelsFine : Plant → Bool

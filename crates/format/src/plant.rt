@@ -11,9 +11,9 @@ ghost use mathlib.Core.Path.{_≡_};
 ghost use mathlib.Core.Bool.{true, _&&_};
 ghost use Prim.Native.Nat.{_+_, _-_, _*_, _≤_};
 ghost use lib.Bits.{bitAnd};
-ghost use lib.ListN.{length, getD, drop};
-ghost use Rattle.format.specs.Checks.{labelsFine, arrowsFine, leastAfter};
-ghost use Rattle.statements.specs.Sets.{pick};
+ghost use lib.ListN.{length, getD, take, drop};
+ghost use Rattle.format.specs.Checks.{labelsFit, labelsFine, arrowsFine, leastAfter};
+ghost use Rattle.statements.specs.Sets.{pick, over};
 ghost use Rattle.statements.specs.Plants.{word, words, arrowsFrom, plantOf, allowed, settled};
 ghost use Rattle.statements.specs.Plants.{headOk, labelsOk, arrowsOk};
 ghost use Rattle.statements.specs.Books.{bookLong};
@@ -64,23 +64,22 @@ fn checked(label: u16, free: bool) -> u16
 }
 
 // No label of the slice's first ones, as many as given from byte 16 on, has a bit above bit `goals`, bit 9 left aside
-// where it is free.
+// where it is free. The labels are joined without a test, and the whole is tested once.
 fn labels_within(plant: &[u8], count: usize, goals: u32, free: bool) -> bool
     requires room { ⌜ 16 + 2 * count ≤ length (now plant) ⌝ }
     requires few { ⌜ goals ≤ 8 ⌝ }
     ensures { λ r. ⌜ r ≡ labelsOk free goals (words count (drop 16 (now (plant .entry)))) ⌝ }
 {
     let limit: u32 = 1 << (goals + 1);
+    let mut all: u16 = 0;
     let mut at = 16;
     let mut left = count;
     while 0 < left {
-        if limit <= (checked(word_in(plant, at), free) as u32) {
-            return false;
-        }
+        all = all | word_in(plant, at);
         at += 2;
         left -= 1;
     }
-    true
+    (checked(all, free) as u32) < limit
 }
 
 // The number by which arrows are compared.
@@ -165,13 +164,30 @@ pub fn book_long(plant: &[u8]) -> usize
 }
 
 // The label of a state; 0 for a number that is no state.
-pub fn label(plant: &[u8], state: u32) -> u16
+pub(crate) fn label(plant: &[u8], state: u32) -> u16
     ensures { λ r. ⌜ r ≡ getD (plantOf (now (plant .entry)) .labels) state 0 ⌝ }
 {
     if (number(plant, 0) as u32) <= state {
         return 0;
     }
     word_at(plant, 16 + 2 * (state as usize))
+}
+
+// Writes the labels of a plant over the front of a list. Where the plant lacks their bytes or the list the room, nothing
+// is written.
+pub fn labels_to(plant: &[u8], to: &mut [u16])
+    ensures { λ _. ⌜ now (to .exit) ≡ pick (labelsFit (now (plant .entry)) (now (to .entry)))
+        (over (plantOf (now (plant .entry)) .labels) (now (to .entry))) (now (to .entry)) ⌝ }
+{
+    let count = number(plant, 0) as usize;
+    if (plant.len() < 16 + 2 * count) | (to.len() < count) {
+        return;
+    }
+    let mut x = 0;
+    while x < count {
+        to[x] = word_in(plant, 16 + 2 * x);
+        x += 1;
+    }
 }
 
 // A state is allowed.

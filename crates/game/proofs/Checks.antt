@@ -1,26 +1,20 @@
--- The checks of the arrays, turn by turn, and what they say. Assumes nothing.
+-- The checks of the arrays, and what they say. Assumes nothing.
 use mathlib.Core.Path.{_≡_, refl, sym, ap, _∙_}
 use mathlib.Core.Bool.{Bool, true, false, _&&_}
 use mathlib.Core.List.{List}
 use Prim.Native.Nat.{ℕ, _+_, _*_, _<_, _≤_}
 use native.Mathlib.Omega.{arith}
-use borrow.Author.Tests.{lt-ltb, le-ltb, le-leb, lt-leb, leb-true, ltb-true}
+use borrow.Author.Tests.{lt-ltb, le-leb, leb-true, ltb-true}
 use lib.Dec.{eqb, ltb, leb}
 use lib.ListN.{length, getD}
 use Rattle.sets.proofs.Tests.{and-iff}
-use Rattle.sets.proofs.Numbers.{every-at, every-all, every-none}
+use Rattle.sets.proofs.Numbers.{every-at, every-all}
 use Rattle.arrays.proofs.Guards.{small-product}
 use Rattle.game.specs.Walked.{nodes, ordered, allBelow}
 use Rattle.game.specs.Packed.{placesIn, roomyFor}
 
 -- a limit for each number
 module _ (xs : List ℕ) (limit : ℕ) where
-  pub below-no : (i : ℕ) → i < length xs → limit ≤ getD xs i 0 → false ≡ allBelow xs limit
-  unfolding allBelow
-  below-no i h l =
-      sym (every-none (length xs) 0 (λ k. ltb (getD xs k 0) limit) i (omega arith) (omega arith)
-      (le-ltb (getD xs i 0) limit l))
-
   pub below-yes : ((i : ℕ) → i < length xs → getD xs i 0 < limit) → true ≡ allBelow xs limit
   unfolding allBelow
   below-yes h =
@@ -35,15 +29,6 @@ module _ (xs : List ℕ) (limit : ℕ) where
 
 -- the starts
 module _ (starts : List ℕ) (positions : ℕ) where
-  pub ordered-no : (t : ℕ) → t < nodes starts → getD starts (t + 1) 0 < getD starts t 0
-      → false ≡ ordered starts positions
-  unfolding ordered
-  ordered-no t h l =
-      let falls =
-      every-none (nodes starts) 0 (λ k. leb (getD starts k 0) (getD starts (k + 1) 0)) t (omega arith) (omega arith)
-      (lt-leb (getD starts t 0) (getD starts (t + 1) 0) l) in
-      rw falls
-
   pub ordered-ends : ((t : ℕ) → t < nodes starts → getD starts t 0 ≤ getD starts (t + 1) 0)
       → (eqb (getD starts 0 0) 0 && eqb (getD starts (nodes starts) 0) positions) ≡ ordered starts positions
   unfolding ordered

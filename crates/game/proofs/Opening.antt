@@ -1,7 +1,5 @@
--- The loops before the first round, turn by turn: each group has an end, and the nodes with a group are marked.
--- Assumes nothing.
+-- The loop before the first round, turn by turn: the nodes with a group are marked. Assumes nothing.
 use mathlib.Core.Path.{_≡_, ap, sym, _∙_}
-use mathlib.Core.Bool.{true, false}
 use mathlib.Core.List.{List}
 use Prim.Native.Nat.{ℕ, _+_, _<_, _≤_}
 use native.Mathlib.Omega.{arith}
@@ -10,23 +8,7 @@ use borrow.Author.Tests.{lt-ltb, le-ltb}
 use lib.Dec.{ltb}
 use lib.ListN.{length, getD, set}
 use lib.Seq.{getD-set-same, getD-set-other}
-use Rattle.statements.specs.Sets.{every}
-use Rattle.sets.proofs.Numbers.{every-all, every-none}
 use Rattle.sort.specs.Steps.{Holds}
-
--- a size of 0, or none
-module _ (sizes : List ℕ) where
-  pub covered-no : (g : ℕ) → g < length sizes → getD sizes g 0 < 1
-      → false ≡ every (length sizes) 0 (λ k. ltb 0 (getD sizes k 0))
-  covered-no g h l =
-      sym (every-none (length sizes) 0 (λ k. ltb 0 (getD sizes k 0)) g (omega arith) (omega arith)
-      (le-ltb 0 (getD sizes g 0) (omega arith)))
-
-  pub covered-yes : ((g : ℕ) → g < length sizes → 1 ≤ getD sizes g 0)
-      → true ≡ every (length sizes) 0 (λ k. ltb 0 (getD sizes k 0))
-  covered-yes h =
-      sym (every-all (length sizes) 0 (λ k. ltb 0 (getD sizes k 0))
-      (λ k low high. lt-ltb 0 (getD sizes k 0) (omega (arith, h k (omega arith)))))
 
 -- the nodes below x are marked where they have a group, and the others up to n are not marked yet
 pub record Opening (live member : List ℕ) (n x : ℕ) : Type 0 where

@@ -24,34 +24,33 @@ pub fn places(length: usize) -> usize
     (length - 2049) / 2
 }
 
-// The starts begin with 0, never fall, and end with the number of positions.
+// The starts begin with 0, never fall, and end with the number of positions. A test like this goes on past a bad number:
+// a loop with no way out in the middle is compiled to vector code.
 fn rising(starts: &[u16], positions: usize) -> bool
     requires { ⌜ 0 < length (now starts) ⌝ }
     ensures { λ r. ⌜ r ≡ ordered (now (starts .entry)) positions ⌝ }
 {
     let n = starts.len() - 1;
     let mut t = 0;
+    let mut good = true;
     while t < n {
-        if starts[t + 1] < starts[t] {
-            return false;
-        }
+        good = good & (starts[t] <= starts[t + 1]);
         t += 1;
     }
-    (starts[0] == 0) & (starts[n] as usize == positions)
+    good & ((starts[0] == 0) & (starts[n] as usize == positions))
 }
 
 // Each number is below the limit.
-fn below(xs: &[u16], limit: usize) -> bool
+fn below(xs: &[u16], limit: u16) -> bool
     ensures { λ r. ⌜ r ≡ allBelow (now (xs .entry)) limit ⌝ }
 {
     let mut i = 0;
+    let mut good = true;
     while i < xs.len() {
-        if limit <= xs[i] as usize {
-            return false;
-        }
+        good = good & (xs[i] < limit);
         i += 1;
     }
-    true
+    good
 }
 
 // Counts the positions of each group.

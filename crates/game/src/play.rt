@@ -41,13 +41,12 @@ fn covered(sizes: &[u16]) -> bool
     ensures { λ r. ⌜ r ≡ every (length (now (sizes .entry))) 0 (λ g. ltb 0 (getD (now (sizes .entry)) g 0)) ⌝ }
 {
     let mut g = 0;
+    let mut good = true;
     while g < sizes.len() {
-        if sizes[g] < 1 {
-            return false;
-        }
+        good = good & (0 < sizes[g]);
         g += 1;
     }
-    true
+    good
 }
 
 // Marks the nodes that have a group.
@@ -318,8 +317,8 @@ fn sound(graph: &[u16], shape: Shape, start: &[u16]) -> bool
     let rev = places(graph.len());
     let starts = graph.len() - 2049;
     rising(&graph[starts..starts + (nodes + 1)], positions)
-        & (below(&graph[rev..rev + positions], groups)
-            & (below(&graph[..groups], nodes) & rises(start, nodes)))
+        & (below(&graph[rev..rev + positions], groups as u16)
+            & (below(&graph[..groups], nodes as u16) & rises(start, nodes)))
 }
 
 // The positions of each group are counted; where each group has one, the game is played.

@@ -11,8 +11,8 @@ use lib.ListN.{length, take, drop, length-drop}
 use lib.Seq.{length-take-le, take-append-le}
 use Rattle.statements.specs.Plants.{word, Plant, plantOf, plantFault}
 use Rattle.sets.proofs.Tests.{and-left, and-none, and-iff, leb-iff}
-use Rattle.decoding.proofs.Faults.{states-few}
-use Rattle.format.proofs.Header.{plant-states}
+use Rattle.decoding.proofs.Faults.{states-few, plant-tests}
+use Rattle.format.proofs.Header.{plant-states, plant-head}
 use Rattle.layout.specs.Layout.{groupStates, groupEnds, groupSizes, groupOwners, tableRoom, roomy, Front, Layout}
 use Rattle.layout.proofs.Closing.{ends-length, numbered-length}
 use Rattle.game.specs.Packed.{part, placesIn}
@@ -86,12 +86,14 @@ part-size a n t h = ap length (part-of a n t) ∙ length-take-le n (drop a t) (o
 module _ (s : List ℕ) (mask a h : ℕ) (table : List ℕ) where
   pub linkable : plantFault s ≡ 0 → a ≡ length (groupEnds (plantOf s) mask) → 1026 + 3 * h + a ≤ length table
       → a ≤ h → (graph : List ℕ) → 2049 ≤ length graph → a ≤ placesIn (length graph)
-      → Linkable (word 0 s) (part (1026 + 2 * h) a table) (part (1026 + 3 * h) a table) graph
+      → Linkable s (part (1026 + 2 * h) a table) (part (1026 + 3 * h) a table) graph
   linkable fine count long fits graph room few =
       let size = part-size (1026 + 2 * h) a table (omega arith) in
       let size′ = part-size (1026 + 3 * h) a table long in
       let counts = counts-few s mask a fine count in
+      let head = plant-head s (plant-tests s fine .0) in
       record {
+        plant-long = omega (arith, head .long);
         states-few = counts .0;
         ends-few = omega (arith, counts .1);
         owned = omega arith;

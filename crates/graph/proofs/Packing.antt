@@ -3,18 +3,17 @@
 use mathlib.Core.Path.{_≡_, refl, sym, ap, _∙_}
 use mathlib.Core.Bool.{Bool, true}
 use mathlib.Core.List.{List, [], _∷_, _++_}
-use Prim.Native.Nat.{ℕ, zero, suc, _+_, _-_, _<_, _≤_}
+use Prim.Native.Nat.{ℕ, zero, suc, _+_, _-_, _*_, _<_, _≤_}
 use native.Mathlib.Omega.{arith}
 use native.Mathlib.Nat.{zero-add, suc-add}
-use native.Mathlib.Numerals.{add-one}
-use borrow.Author.Tests.{le-leb, lt-ltb}
-use lib.ListN.{length, getD, take, drop, set, length-take, length-drop, length-map}
-use lib.Seq.{length-take-le, take-all, take-append-le, take-at, drop-at, take-take, take-suc, take-suc-set}
+use borrow.Author.Tests.{le-leb, le-ltb, lt-ltb}
+use lib.ListN.{length, getD, take, drop, length-take, length-drop, length-map}
+use lib.Seq.{length-take-le, take-all, take-append-le, take-at, drop-at, take-take}
 use Rattle.statements.specs.Sets.{pick, over}
 use Rattle.statements.specs.Plants.{word, plantOf}
 use Rattle.sets.proofs.Tests.{and-true}
 use Rattle.sets.proofs.Over.{over-back}
-use Rattle.decoding.proofs.Faults.{words-length}
+use Rattle.format.specs.Checks.{labelsFit}
 use Rattle.arrays.specs.Lists.{fitting}
 use Rattle.arrays.proofs.Guards.{fitting-yes}
 use Rattle.layout.specs.Layout.{Front}
@@ -80,15 +79,14 @@ copied-part n a from to new rest h room e =
     let here : Front (take n from) new = rw (e, fitting-yes (take n from) old fits) (over-front (take n from) old) in
     rw long at (part-front a (take n from) to new rest (omega arith) here)
 
--- a label for each state, written one after another
-pub labels-long : (s : List ℕ) → length (plantOf s .labels) ≡ word 0 s
-unfolding plantOf
-labels-long s = words-length (word 0 s) (drop 16 s)
-
-pub front-more : (xs to : List ℕ) (x v : ℕ) → x < length xs → x < length to → Alike x to xs → v ≡ getD xs x 0
-    → Alike (x + 1) (set to x v) xs
-front-more xs to x v h room e is =
-    rw add-one (take-suc-set to x v room ∙ rw (e, is) (sym (take-suc xs x 0 h)))
+-- a label for each state
+pub front-labels : (s old new : List ℕ) → 16 + 2 * word 0 s ≤ length s → word 0 s ≤ length old
+    → new ≡ pick (labelsFit s old) (over (plantOf s .labels) old) old → Front (plantOf s .labels) new
+unfolding labelsFit
+front-labels s old new long room e =
+    let fit : labelsFit s old ≡ true = rw (le-ltb _ _ long, le-ltb _ _ room) in
+    ap (take (length (plantOf s .labels))) (e ∙ ap (λ (b : Bool). pick b (over (plantOf s .labels) old) old) fit)
+    ∙ over-back (plantOf s .labels) old (length (plantOf s .labels)) refl
 
 -- the lists fit the sort, and it gives no more values than there are keys
 pub sortable-yes : (keys vals n starts out : ℕ) → n ≤ 1024 → keys ≤ 65535 → keys ≤ vals → n < starts → keys ≤ out
@@ -121,7 +119,7 @@ module _ (plant ends owners old part from starts g g₂ labels rest rest′ : Li
   abbrev Whole : List ℕ
   Whole = take l g₂ ++ (labels ++ rest′)
 
-  pub linked : n ≡ word 0 plant → Linkable (word 0 plant) ends owners g → length g₂ ≡ length g → length Whole ≡ length g
+  pub linked : n ≡ word 0 plant → Linkable plant ends owners g → length g₂ ≡ length g → length Whole ≡ length g
       → k ≡ placesIn (length g) → s ≡ length g - 2049 → l ≡ length g - 1024
       → part ≡ over (sortedBy n ends owners) old → starts ≡ over (startsOf n ends) from
       → Alike s g₂ Sorted → Alike (n + 1) (drop s g₂) starts → Front (plantOf plant .labels) labels

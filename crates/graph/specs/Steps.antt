@@ -1,7 +1,7 @@
 -- What the steps of the packing hand on to each other. Assumes nothing.
 use mathlib.Core.Path.{_≡_}
 use mathlib.Core.List.{List}
-use Prim.Native.Nat.{ℕ, _-_, _≤_}
+use Prim.Native.Nat.{ℕ, _+_, _-_, _*_, _≤_}
 use lib.ListN.{length, take, drop}
 use Rattle.statements.specs.Plants.{plantOf, word}
 use Rattle.sort.specs.Sorted.{sortedBy, startsOf}
@@ -12,9 +12,10 @@ use Rattle.game.specs.Packed.{placesIn}
 abbrev pub Alike : ℕ → List ℕ → List ℕ → Type 0
 Alike n xs ys = take n xs ≡ take n ys
 
--- n states and the ends of their moves can be linked in the graph
-pub record Linkable (n : ℕ) (ends owners graph : List ℕ) : Type 0 where
-  pub states-few : n ≤ 1024
+-- the states of a plant and the ends of their moves can be linked in the graph
+pub record Linkable (plant ends owners graph : List ℕ) : Type 0 where
+  pub plant-long : 16 + 2 * word 0 plant ≤ length plant
+  pub states-few : word 0 plant ≤ 1024
   pub ends-few : length ends ≤ 8192
   pub owned : length ends ≤ length owners
   pub graph-long : 2049 ≤ length graph

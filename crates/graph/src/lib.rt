@@ -1,7 +1,7 @@
 // The graph of a plant in two packed arrays, for the walk: the groups of the layout, and the links from each end back
 // to its group, sorted.
 use arrays::copy;
-use format::plant::label;
+use format::plant::labels_to;
 use format::word::number;
 use layout::Loaded;
 use layout::load;
@@ -13,8 +13,8 @@ ghost use Prim.Native.Nat.{_+_, _≤_};
 ghost use lib.Dec.{eqb};
 ghost use lib.ListN.{length, drop};
 ghost use Rattle.statements.specs.Sets.{pick};
-ghost use Rattle.statements.specs.Plants.{word, plantOf, plantFault};
-ghost use Rattle.layout.specs.Layout.{groupStates, groupEnds, Front};
+ghost use Rattle.statements.specs.Plants.{plantOf, plantFault};
+ghost use Rattle.layout.specs.Layout.{groupStates, groupEnds};
 ghost use Rattle.graph.specs.Packed.{roomyPack, Packed};
 ghost use Rattle.graph.specs.Steps.{Alike, Linkable, Linked};
 
@@ -28,22 +28,9 @@ fn put(from: &[u16], count: usize, to: &mut [u16], at: usize)
     copy(&from[..count], &mut to[at..]);
 }
 
-// Writes the labels of a plant over the front of a list.
-fn put_labels(plant: &[u8], to: &mut [u16])
-    requires { ⌜ word 0 (now plant) ≤ length (now to) ⌝ }
-    ensures { λ _. ⌜ Front (plantOf (now (plant .entry)) .labels) (now (to .exit)) ⌝ }
-{
-    let count = number(plant, 0);
-    let mut x: u16 = 0;
-    while x < count {
-        to[x as usize] = label(plant, x as u32);
-        x += 1;
-    }
-}
-
 // Packs the links from the ends back to the groups that own them, and the labels.
 fn link(plant: &[u8], ends: &[u16], owners: &[u16], graph: &mut [u16])
-    requires { ⌜ Linkable (word 0 (now plant)) (now ends) (now owners) (now graph) ⌝ }
+    requires { ⌜ Linkable (now plant) (now ends) (now owners) (now graph) ⌝ }
     ensures { λ _. ⌜ Linked (now (plant .entry)) (now (ends .entry)) (now (owners .entry)) (now (graph .entry))
         (now (graph .exit)) ⌝ }
 {
@@ -54,7 +41,7 @@ fn link(plant: &[u8], ends: &[u16], owners: &[u16], graph: &mut [u16])
     let mut starts = [0u16; 1025];
     sort(ends, owners, count, &mut starts, &mut graph[rev..at]);
     put(&starts, count + 1, graph, at);
-    put_labels(plant, &mut graph[labels..]);
+    labels_to(plant, &mut graph[labels..]);
 }
 
 // Builds the packed arrays of a plant and the moves in service. Where the plant is refused, or an array is too short

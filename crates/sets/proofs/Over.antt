@@ -7,7 +7,7 @@ use native.Mathlib.Numerals.{add-one}
 use native.Mathlib.Omega.{arith}
 use lib.ListN.{length, getD, take, drop, set, length-append, length-drop, List·getD-append}
 use lib.Seq.{sets, sets-eq, set-at, set-comm, take-append-seam, drop-append-add, drop-drop, drop-cons, append-snoc}
-use lib.Seq.{getD-append-add, getD-drop}
+use lib.Seq.{getD-append-add, getD-drop, take-suc, length-take-le}
 use Rattle.statements.specs.Sets.{over}
 
 -- nothing is written yet
@@ -57,6 +57,14 @@ over-more xs ys old h =
     let fits : length xs + length ys ≤ length (over xs old) = rw over-length h in
     sets-eq ys (over xs old) (length xs) fits
     ∙ rw (take-append-seam xs, drop-append-add xs, drop-drop, length-append)
+
+-- a list copied to the front of another, number by number: one more
+pub copy-more : (from old new : List ℕ) (k : ℕ) → k < length from → length from ≤ length old
+    → new ≡ over (take k from) old → set new k (getD from k 0) ≡ over (take (k + 1) from) old
+copy-more from old new k h room e =
+    let n : length (take k from) ≡ k = length-take-le k from (omega arith) in
+    let more = over-one (take k from) old (getD from k 0) (omega arith) in
+    rw (e, add-one, take-suc from k 0 h) (rw n at more)
 
 -- stored after others
 pub sets-append : (l : List ℕ) (at : ℕ) (xs ys : List ℕ)

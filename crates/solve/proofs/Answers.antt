@@ -3,11 +3,11 @@ use mathlib.Core.Path.{_≡_, refl, sym, ap, _∙_}
 use mathlib.Core.Logic.{⊎-elim}
 use mathlib.Core.Bool.{Bool, true, false, _&&_, _||_, not}
 use mathlib.Core.List.{List, [], _∷_}
-use Prim.Native.Nat.{ℕ, _+_, _*_, _≤_}
+use Prim.Native.Nat.{ℕ, _+_, _*_, _≤_, _<_}
 use native.Mathlib.Omega.{arith}
 use lib.Dec.{eqb, ltb, leb}
-use lib.ListN.{length, drop-of-length-le}
-use borrow.Author.Tests.{eqb-true, le-leb, lt-leb, ltb-true, ltb-false}
+use lib.ListN.{length, getD, drop-of-length-le}
+use borrow.Author.Tests.{eqb-true, eq-eqb, ne-eqb, le-leb, lt-leb, ltb-true, ltb-false}
 use Rattle.statements.specs.Sets.{pick, isIn}
 use Rattle.statements.specs.Plants.{Plant, plantOf, plantFault}
 use Rattle.statements.specs.Kept.{keptWithin}
@@ -22,7 +22,8 @@ use Rattle.layout.specs.Layout.{tableRoom}
 use Rattle.game.specs.Packed.{placesIn}
 use Rattle.graph.specs.Packed.{roomyPack}
 use Rattle.solve.specs.Graphed.{Wide}
-use Rattle.solve.specs.Rows.{rowSize, rowsLong, rowsOver, solvable, solvedCount, solvedRows}
+use Rattle.solve.specs.Rows.{rowSize, rowsLong, Rowed, rowsOver, solvable, solvedCount, solvedRows}
+use Rattle.solve.proofs.RowMarks.{rows-bytes}
 
 -- how many bytes a book has: those of the header and of the rows
 long-by : (t : Bool) (s n : ℕ) → bookLong t s n ≡ 16 + 2 * (s * pick t (2 * n + 1) (2 * n))
@@ -117,10 +118,10 @@ no-members [] h = refl
 no-members (x ∷ xs) h = absurd (h x (isIn-here x xs))
 
 -- keeps none
-pub none-kept : (p : Plant) (mask : ℕ) (start : List ℕ) → start ≡ [] → keptWithin p mask (among start) ≡ []
+none-kept : (p : Plant) (mask : ℕ) → keptWithin p mask (among []) ≡ []
 unfolding among
-none-kept p mask start e =
-    no-members (keptWithin p mask (among start)) (λ x m. isIn-none x (rw e at (kept-within p mask (among start) x m .1)))
+none-kept p mask =
+    no-members (keptWithin p mask (among [])) (λ x m. isIn-none x (kept-within p mask (among []) x m .1))
 
 -- at most 1024 states are kept
 pub done-few : (s : List ℕ) (mask : ℕ) (start : List ℕ) → plantFault s ≡ 0
@@ -155,3 +156,21 @@ unfolding solvable
 fine-solvable s start out rises room =
     ap (λ (b : Bool). eqb (plantFault s) 0 && b) (and-true rises (le-leb (16 + 2 * rowsLong (plantOf s)) (length out) room))
     ∙ and-all (eqb (plantFault s) 0)
+
+-- no state to start from, and room for the rows
+module _ (s : List ℕ) (mask : ℕ) (out : List ℕ) (room : 16 + 2 * rowsLong (plantOf s) ≤ length out) where
+  -- the plant is refused
+  pub none-unsolved : (plantFault s ≡ 0 → ⊥) → (65535 ≡ solvedCount s mask [] out) × (out ≡ solvedRows s mask [] out)
+  unfolding rising
+  none-unsolved bad = not-solved s mask [] out (fine-solvable s [] out refl room ∙ ne-eqb (plantFault s) 0 bad)
+
+  -- it is accepted: none is kept, and marks are all rows
+  pub none-solved : {new : List ℕ} → plantFault s ≡ 0 → Rowed (plantOf s) mask [] [] out new
+      → ((k : ℕ) → k < length new → getD new k 0 < 256)
+      → (0 ≡ solvedCount s mask [] out) × (new ≡ solvedRows s mask [] out)
+  unfolding rising
+  none-solved fine rows small =
+      let kept = none-kept (plantOf s) mask in
+      done-solved s mask [] out (fine-solvable s [] out refl room ∙ eq-eqb _ _ fine) (ap length (sym kept))
+      (rows-bytes (plantOf s) mask [] rows small room
+      ∙ ap (λ (ys : List ℕ). rowsOver (plantOf s) mask ys out) (sym kept))

@@ -6,6 +6,7 @@ mod stages;
 use arrays::rises;
 use format::plant::book_long;
 use format::plant::settles;
+use format::plant_fault;
 use format::word::number;
 use graph::build;
 use layout::Loaded;
@@ -15,7 +16,8 @@ use stages::at_once;
 use stages::by_stages;
 ghost use mathlib.Core.Path.{_≡_};
 ghost use mathlib.Core.Bool.{true};
-ghost use Prim.Native.Nat.{_+_, _*_, _≤_};
+ghost use mathlib.Core.List.{[]};
+ghost use Prim.Native.Nat.{ℕ, _+_, _*_, _≤_};
 ghost use lib.ListN.{length};
 ghost use Rattle.statements.specs.Sets.{numbers};
 ghost use Rattle.statements.specs.Plants.{plantOf, plantFault};
@@ -79,13 +81,24 @@ fn solved(
 {
     let frame = frame_of(plant, mask, loaded);
     blank(plant, frame.states * frame.size, out);
-    if start.len() == 0 {
-        return 0;
-    }
     if settles(plant) {
         return by_stages(plant, frame, table, graph, start, out);
     }
     at_once(plant, frame, table, graph, start, out)
+}
+
+// With no state to start from none is kept: there are marks in all rows, where the plant is accepted.
+fn nothing(plant: &[u8], out: &mut [u8]) -> u32
+    requires { ⌜ 16 + 2 * rowsLong (plantOf (now plant)) ≤ length (now out) ⌝ }
+    ensures count { λ r. ⌜ ((mask : ℕ) → r ≡ solvedCount (now (plant .entry)) mask [] (now (out .entry))) ⌝ }
+    ensures rows { λ _. ⌜ ((mask : ℕ) → now (out .exit)
+        ≡ solvedRows (now (plant .entry)) mask [] (now (out .entry))) ⌝ }
+{
+    if plant_fault(plant) != 0 {
+        return 65535;
+    }
+    blank(plant, (book_long(plant) - 16) / 2, out);
+    0
 }
 
 // The rows, by way of a table and a graph with room for the plant's arrows.
@@ -150,6 +163,9 @@ pub fn solve(plant: &[u8], mask: u32, start: &[u16], out: &mut [u8]) -> u32
     let states = number(plant, 0) as usize;
     if !rises(start, states) | (out.len() < book_long(plant)) {
         return 65535;
+    }
+    if start.len() == 0 {
+        return nothing(plant, out);
     }
     if number(plant, 3) <= 2048 {
         return small(plant, mask, start, out);

@@ -7,7 +7,7 @@ use lib.Seq.{take-length}
 use denote.Ref.{now}
 use Rattle.statements.specs.Sets.{over}
 use Rattle.sets.proofs.Over.{over-none}
-use Rattle.arrays.proofs.Sieves.{copy-more}
+use Rattle.sets.proofs.Over.{copy-more}
 use Rattle.arrays.proofs.Guards.{fitting-yes, fitting-no}
 use Rattle.arrays.proofs.copy.Statement.{statement}
 use Rattle.arrays.proofs.copy.Tie as tie

@@ -1,48 +1,46 @@
--- `arrays::rises` meets its contract: after k turns the list rises where the rest rises from the last number read.
+-- `arrays::rises` meets its contract: after k turns the answer is that for the first k numbers, each against the next.
 -- Assumes nothing.
-use mathlib.Core.Path.{_≡_, refl}
-use mathlib.Core.Logic.{⊎-elim, inl, inr}
-use Prim.Native.Nat.{_≤_, _-_}
+use mathlib.Core.Path.{ap, _∙_}
+use mathlib.Core.Bool.{Bool, _&&_}
+use Prim.Native.Nat.{_-_}
 use native.Mathlib.Omega.{arith}
-use lib.ListN.{length, drop}
-use borrow.Author.Tests.{ltb-true, ltb-false, leb-true, leb-false}
-use Rattle.sets.proofs.Tests.{or-cases, or-neither}
-use Rattle.arrays.specs.Lists.{rising}
-use Rattle.arrays.proofs.Ordered.{rising-end, rising-no, rising-yes}
+use denote.Ref.{now}
+use lib.Dec.{ltb}
+use lib.ListN.{length, getD}
+use Rattle.arrays.proofs.Gathered.{Gathered, gathered-none, gathered-more, gathered-all}
+use Rattle.arrays.proofs.Ordered.{climbs, climbs-rising, rising-empty}
 use Rattle.arrays.proofs.rises.Statement.{statement}
 use Rattle.arrays.proofs.rises.Tie as tie
 
 abbrev Inv-loop : tie.InvT-loop
-Inv-loop list limit least₀ k₀ least k =
-    (k ≤ length list) × (rising 0 limit list ≡ rising least limit (drop k list))
+Inv-loop list limit n k₀ good₀ k good = Gathered n (climbs list) k good
 
 abbrev μ-loop : tie.MeasureT-loop
-μ-loop list limit least₀ k₀ least k = length list - k
-
-loop-holds : tie.Need-loop-holds Inv-loop μ-loop
-loop-holds c = (omega arith, refl)
-
-mul-x : tie.Need-mul-x Inv-loop μ-loop
-mul-x c = omega arith
-
-shared-slice-read-x : tie.Need-shared-slice-read-x Inv-loop μ-loop
-shared-slice-read-x c = omega arith
-
-cast-x : tie.Need-cast-x Inv-loop μ-loop
-cast-x c = omega (arith, c .shared-slice-known .given (c .before .before .loop .k))
+μ-loop list limit n k₀ good₀ k good = n - k
 
 returns : tie.Need-returns Inv-loop μ-loop
-returns c =
-    let t = c .before .before in
-    let l = t .before .loop in
-    let s = t .before .before .args in
-    rising-no (s .limit) (s .list .now) (l .least) (l .k) (l .inv .1) (omega arith)
-    (⊎-elim (λ e. inl (ltb-true _ _ e)) (λ e. inr (leb-true _ _ e)) (or-cases _ _ (c .if1 .taken)))
+returns c = rising-empty _ _ (c .if1 .taken)
 
-add-least : tie.Need-add-least Inv-loop μ-loop
-add-least c =
-    let t = c .before .before in
-    omega (arith, c .before .shared-slice-known .given (t .before .loop .k))
+sub-n : tie.Need-sub-n Inv-loop μ-loop
+sub-n c = omega arith
+
+loop-holds : tie.Need-loop-holds Inv-loop μ-loop
+loop-holds c = gathered-none _ _
+
+mul-good : tie.Need-mul-good Inv-loop μ-loop
+mul-good c = omega arith
+
+shared-slice-read-good : tie.Need-shared-slice-read-good Inv-loop μ-loop
+shared-slice-read-good c = omega arith
+
+add-good : tie.Need-add-good Inv-loop μ-loop
+add-good c = omega arith
+
+mul-good-2 : tie.Need-mul-good-2 Inv-loop μ-loop
+mul-good-2 c = omega arith
+
+shared-slice-read-good-2 : tie.Need-shared-slice-read-good-2 Inv-loop μ-loop
+shared-slice-read-good-2 c = omega arith
 
 add-k : tie.Need-add-k Inv-loop μ-loop
 add-k c = omega arith
@@ -52,20 +50,26 @@ loop-less c = omega arith
 
 loop-again : tie.Need-loop-again Inv-loop μ-loop
 loop-again c =
-    let t = c .before .before in
-    let l = t .before .loop in
-    let s = t .before .before .args in (
-      omega arith,
-      let tests = or-neither _ _ (c .if1 .left) in
-          rising-yes (s .limit) (s .list .now) (l .least) (l .k) (l .inv .1) (omega arith) (ltb-false _ _ (tests .0))
-          (leb-false _ _ (tests .1)),
-    )
+    let l = c .before .before .before .loop in
+    gathered-more _ (climbs (now (c .before .before .before .before .before .args .list))) (l .k) (l .inv) (omega arith)
+
+mul-result : tie.Need-mul-result Inv-loop μ-loop
+mul-result c = omega arith
+
+shared-slice-read-result : tie.Need-shared-slice-read-result Inv-loop μ-loop
+shared-slice-read-result c = omega arith
+
+cast-result : tie.Need-cast-result Inv-loop μ-loop
+cast-result c =
+    omega (arith, c .shared-slice-known3 .given (length (now (c .before .before .before .before .args .list)) - 1))
 
 returns-2 : tie.Need-returns-2 Inv-loop μ-loop
 returns-2 c =
-    let l = c .before .loop in
-    let s = c .before .before .args in
-    rising-end (s .limit) (s .list .now) (l .least) (l .k) (l .inv .1) (omega arith)
+    let s = c .before .before .before .before .args in
+    let l = c .before .before .loop in
+    let last = ltb (getD (now (s .list)) (length (now (s .list)) - 1) 0) (s .limit) in
+    ap (λ (b : Bool). b && last) (gathered-all _ (climbs (now (s .list))) (l .k) (l .inv) (omega arith))
+    ∙ climbs-rising (s .limit) (now (s .list)) (omega arith)
 
 pub rises-spec : {M : Type 1} → statement M
 rises-spec =
@@ -73,13 +77,18 @@ rises-spec =
     (tie.spec
     Inv-loop
     μ-loop
-    loop-holds
-    mul-x
-    shared-slice-read-x
-    cast-x
     returns
-    add-least
+    sub-n
+    loop-holds
+    mul-good
+    shared-slice-read-good
+    add-good
+    mul-good-2
+    shared-slice-read-good-2
     add-k
     loop-less
     loop-again
+    mul-result
+    shared-slice-read-result
+    cast-result
     returns-2)

@@ -1,44 +1,43 @@
--- `game::rising` meets its contract: before each turn the starts so far do not fall. Assumes nothing.
-use Prim.Native.Nat.{ℕ, _+_, _-_, _<_, _≤_}
+-- `game::rising` meets its contract: before each turn the answer is that for the starts so far. Assumes nothing.
+use mathlib.Core.Path.{ap}
+use mathlib.Core.Bool.{Bool, _&&_}
+use Prim.Native.Nat.{_+_, _-_}
 use native.Mathlib.Omega.{arith}
-use borrow.Author.Count.{below-more}
 use denote.Ref.{now}
+use lib.Dec.{eqb, leb}
 use lib.ListN.{length, getD}
-use Rattle.game.specs.Walked.{nodes}
-use Rattle.game.proofs.Checks.{ordered-no, ordered-ends}
+use Rattle.arrays.proofs.Gathered.{Gathered, gathered-none, gathered-more, gathered-all}
+use Rattle.game.specs.Walked.{nodes, ordered}
 use Rattle.game.proofs.rising.Statement.{statement}
 use Rattle.game.proofs.rising.Tie as tie
 
 abbrev Inv-loop : tie.InvT-loop
-Inv-loop starts positions n t₀ t = (k : ℕ) → k < t → getD starts k 0 ≤ getD starts (k + 1) 0
+Inv-loop starts positions n t₀ good₀ t good =
+    Gathered n (λ k. leb (getD starts k 0) (getD starts (k + 1) 0)) t good
 
 abbrev μ-loop : tie.MeasureT-loop
-μ-loop starts positions n t₀ t = n - t
+μ-loop starts positions n t₀ good₀ t good = n - t
 
 sub-n : tie.Need-sub-n Inv-loop μ-loop
 sub-n c = omega (arith, c .pre)
 
 loop-holds : tie.Need-loop-holds Inv-loop μ-loop
-loop-holds c k h = absurd (omega arith)
+loop-holds c = gathered-none _ _
 
-add-if1 : tie.Need-add-if1 Inv-loop μ-loop
-add-if1 c = omega arith
+mul-good : tie.Need-mul-good Inv-loop μ-loop
+mul-good c = omega arith
 
-mul-if1 : tie.Need-mul-if1 Inv-loop μ-loop
-mul-if1 c = omega arith
+shared-slice-read-good : tie.Need-shared-slice-read-good Inv-loop μ-loop
+shared-slice-read-good c = omega arith
 
-shared-slice-read-if1 : tie.Need-shared-slice-read-if1 Inv-loop μ-loop
-shared-slice-read-if1 c = omega arith
+add-good : tie.Need-add-good Inv-loop μ-loop
+add-good c = omega arith
 
-mul-if1-2 : tie.Need-mul-if1-2 Inv-loop μ-loop
-mul-if1-2 c = omega arith
+mul-good-2 : tie.Need-mul-good-2 Inv-loop μ-loop
+mul-good-2 c = omega arith
 
-shared-slice-read-if1-2 : tie.Need-shared-slice-read-if1-2 Inv-loop μ-loop
-shared-slice-read-if1-2 c = omega arith
-
-returns : tie.Need-returns Inv-loop μ-loop
-unfolding nodes
-returns c = ordered-no _ _ _ (c .before .before .before .loop-test .taken) (c .if1 .taken)
+shared-slice-read-good-2 : tie.Need-shared-slice-read-good-2 Inv-loop μ-loop
+shared-slice-read-good-2 c = omega arith
 
 add-t : tie.Need-add-t Inv-loop μ-loop
 add-t c = omega arith
@@ -48,9 +47,9 @@ loop-less c = omega arith
 
 loop-again : tie.Need-loop-again Inv-loop μ-loop
 loop-again c =
-    let starts = now (c .before .before .before .before .before .args .starts) in
-    below-more (λ (k : ℕ). getD starts k 0 ≤ getD starts (k + 1) 0) _ (c .before .before .before .before .loop .inv)
-    (c .if1 .left)
+    let l = c .before .before .before .loop in
+    let starts = now (c .before .before .before .before .args .starts) in
+    gathered-more _ (λ k. leb (getD starts k 0) (getD starts (k + 1) 0)) (l .t) (l .inv) (omega arith)
 
 shared-slice-read-result : tie.Need-shared-slice-read-result Inv-loop μ-loop
 shared-slice-read-result c = omega arith
@@ -65,9 +64,15 @@ cast-result : tie.Need-cast-result Inv-loop μ-loop
 cast-result c =
     omega (arith, c .shared-slice-known4 .given (length (now (c .before .before .before .before .args .starts)) - 1))
 
-returns-2 : tie.Need-returns-2 Inv-loop μ-loop
-unfolding nodes
-returns-2 c = ordered-ends _ _ (λ t h. c .before .before .before .loop .inv t (omega arith))
+returns : tie.Need-returns Inv-loop μ-loop
+unfolding nodes ordered
+returns c =
+    let l = c .before .before .before .loop in
+    let s = c .before .before .before .before .args in
+    let starts = now (s .starts) in
+    let ends = eqb (getD starts 0 0) 0 && eqb (getD starts (length starts - 1) 0) (s .positions) in
+    ap (λ (b : Bool). b && ends)
+    (gathered-all _ (λ k. leb (getD starts k 0) (getD starts (k + 1) 0)) (l .t) (l .inv) (omega arith))
 
 pub rising-spec : {M : Type 1} → statement M
 rising-spec =
@@ -77,12 +82,11 @@ rising-spec =
     μ-loop
     sub-n
     loop-holds
-    add-if1
-    mul-if1
-    shared-slice-read-if1
-    mul-if1-2
-    shared-slice-read-if1-2
-    returns
+    mul-good
+    shared-slice-read-good
+    add-good
+    mul-good-2
+    shared-slice-read-good-2
     add-t
     loop-less
     loop-again
@@ -90,4 +94,4 @@ rising-spec =
     mul-result
     shared-slice-read-result-2
     cast-result
-    returns-2)
+    returns)

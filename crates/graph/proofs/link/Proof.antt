@@ -9,9 +9,10 @@ use borrow.Author.Needs.{needs}
 use borrow.Rule.Slice.PartMut.{midOf, putMid, same-len-mid, mid-len}
 use denote.Ref.{now}
 use lib.ListN.{length, replicate, length-replicate}
+use Rattle.statements.specs.Plants.{word}
 use Rattle.sort.specs.Sorted.{sortable}
 use Rattle.game.specs.Packed.{placesIn}
-use Rattle.graph.proofs.Packing.{linked, picked, sortable-yes}
+use Rattle.graph.proofs.Packing.{front-labels, linked, picked, sortable-yes}
 use Rattle.graph.proofs.link.Statement.{statement}
 use Rattle.graph.proofs.link.Tie as tie
 
@@ -54,20 +55,20 @@ add-put c = search needs
 put-requires : tie.Need-put-requires
 put-requires c κs = search needs
 
-mul-put-labels : tie.Need-mul-put-labels
-mul-put-labels c = search needs
+mul-labels-to : tie.Need-mul-labels-to
+mul-labels-to c = search needs
 
-sub-put-labels : tie.Need-sub-put-labels
-sub-put-labels c = search needs
+sub-labels-to : tie.Need-sub-labels-to
+sub-labels-to c = search needs
 
-part-put-labels-start : tie.Need-part-put-labels-start
-part-put-labels-start c = search needs
+part-labels-to-start : tie.Need-part-labels-to-start
+part-labels-to-start c = search needs
 
-part-put-labels-end : tie.Need-part-put-labels-end
-part-put-labels-end c = search needs
+part-labels-to-end : tie.Need-part-labels-to-end
+part-labels-to-end c = search needs
 
-put-labels-requires : tie.Need-put-labels-requires
-put-labels-requires c κs = search needs
+labels-to-requires : tie.Need-labels-to-requires
+labels-to-requires c κs = search needs
 
 same-length : tie.Need-same-length
 same-length c = search needs
@@ -112,15 +113,18 @@ returns c =
     sortable-yes keys (length (now (a .owners))) n (length from) (length old) low (omega (arith, fits .ends-few))
     (fits .owned) (omega (arith, length-replicate {A = ℕ} 1025 0))
     (omega (arith, fits .ends-fit, fits .graph-long, mid-len k s g (omega arith))) in
-    let labels = labelled .put-labels .last .1 .0 in
+    let labels = labelled .labels-to .last .1 .0 in
     let g₂ = put .put .last .1 .1 .0 in
     let size : length (putMid l (length g₂ - l) g₂ labels) ≡ length g =
-    same-len-mid l (length g₂ - l) g₂ labels (labelled .put-labels .kept .1 .0) ∙ long put in
+    same-len-mid l (length g₂ - l) g₂ labels (labelled .labels-to .kept .1 .0) ∙ long put in
+    let room : word 0 (now (a .plant)) ≤ length (midOf l (length g₂ - l) g₂) =
+    omega (arith, fits .states-few, fits .graph-long, long put, mid-len l (length g₂) g₂ (omega arith)) in
     linked (now (a .plant)) (now (a .ends)) (now (a .owners)) old (sort .sort .last .1 .1 .1 .1 .0) from
     (sort .sort .last .1 .1 .1 .0) g g₂ labels _ _ n k s l read fits (long put) size refl refl refl
     (picked _ (sort .sort .last .1 .1 .1 .1 .0) _ _ sorts (sort .sort .ensures .1 .1))
     (picked _ (sort .sort .last .1 .1 .1 .0) _ _ sorts (sort .sort .ensures .1 .0))
-    (put .put .ensures .0) (put .put .ensures .1) (labelled .put-labels .ensures)
+    (put .put .ensures .0) (put .put .ensures .1)
+    (front-labels (now (a .plant)) (midOf l (length g₂ - l) g₂) labels (fits .plant-long) room (labelled .labels-to .ensures))
 
 pub link-spec : {M : Type 1} → statement M
 link-spec =
@@ -139,10 +143,10 @@ link-spec =
     slice-aggregate-put
     add-put
     put-requires
-    mul-put-labels
-    sub-put-labels
-    part-put-labels-start
-    part-put-labels-end
-    put-labels-requires
+    mul-labels-to
+    sub-labels-to
+    part-labels-to-start
+    part-labels-to-end
+    labels-to-requires
     same-length
     returns)

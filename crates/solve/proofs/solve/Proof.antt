@@ -71,29 +71,43 @@ returns c =
     (long .book-long .result) (states-are number) (long .book-long .ensures) _ (long .before .rises .ensures)
     (c .if1 .taken))
 
+nothing-requires : tie.Need-nothing-requires
+nothing-requires c κs = fitting (c .before .before) .1
+
+same-length : tie.Need-same-length
+same-length c = search needs
+
+returns-2 : tie.Need-returns-2
+returns-2 c =
+    let call = c .before .before in
+    let e = call .before .before in
+    let a = entry (counted (e .before .before)) .args in
+    let none = laws.nothing (a .start .now) (e .if2 .taken) in
+    (rw none (call .nothing .ensures .0 (a .mask)), rw none (call .nothing .ensures .1 (a .mask)))
+
 number-requires-2 : tie.Need-number-requires-2
 number-requires-2 c κs = search needs
 
 small-requires : tie.Need-small-requires
 small-requires c κs =
     let n = c .before .before in
-    let plant = entry (counted (n .before .before)) .args .plant .now in
-    (omega (arith, arrows-length plant, n .number2 .ensures, c .before .if2 .taken), fitting (n .before))
-
-same-length : tie.Need-same-length
-same-length c = search needs
-
-returns-2 : tie.Need-returns-2
-returns-2 c = c .before .before .small .ensures
-
-large-requires : tie.Need-large-requires
-large-requires c κs = fitting (c .before .before .before)
+    let plant = entry (counted (n .before .before .before)) .args .plant .now in
+    (omega (arith, arrows-length plant, n .number2 .ensures, c .before .if3 .taken), fitting (n .before .before))
 
 same-length-2 : tie.Need-same-length-2
 same-length-2 c = search needs
 
 returns-3 : tie.Need-returns-3
-returns-3 c = c .before .before .large .ensures
+returns-3 c = c .before .before .small .ensures
+
+large-requires : tie.Need-large-requires
+large-requires c κs = fitting (c .before .before .before .before)
+
+same-length-3 : tie.Need-same-length-3
+same-length-3 c = search needs
+
+returns-4 : tie.Need-returns-4
+returns-4 c = c .before .before .large .ensures
 
 pub solve-spec : {M : Type 1} → statement M
 solve-spec =
@@ -104,10 +118,13 @@ solve-spec =
     rises-requires
     book-long-requires
     returns
-    number-requires-2
-    small-requires
+    nothing-requires
     same-length
     returns-2
-    large-requires
+    number-requires-2
+    small-requires
     same-length-2
-    returns-3)
+    returns-3
+    large-requires
+    same-length-3
+    returns-4)

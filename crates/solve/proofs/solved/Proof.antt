@@ -15,7 +15,6 @@ use Rattle.solve.specs.Given.{Given}
 use Rattle.solve.specs.Graphed.{Graphed}
 use Rattle.solve.proofs.RowEntries.{rows-few}
 use Rattle.solve.proofs.RowMarks.{rows-bytes}
-use Rattle.solve.proofs.Answers.{nothing, none-kept}
 use Rattle.solve.proofs.Loaded.{Figures, figures-are, rows-count, loaded-given, loaded-graphed, loaded-exits}
 use Rattle.solve.proofs.solved.Statement.{statement}
 use Rattle.solve.proofs.solved.Tie as tie
@@ -114,32 +113,12 @@ blank-requires c κs =
     let figures = c .before .before in
     (counted figures, entry figures .pre .1 .1 .1 .1)
 
--- a start with no state
-none : (c : tie.Then1) → first (c .before .before .before) .args .start .now ≡ []
-none c = nothing (first (c .before .before .before) .args .start .now) (c .if1 .taken)
-
-same-length : tie.Need-same-length
-same-length c = search needs
-
-returns : tie.Need-returns
-returns c =
-    let blank = c .before .before .before in
-    let a = first blank .args in
-    let p = plantOf (a .plant .now) in
-    let mask = figures blank .frame-of .result .mask in
-    let is = none-kept p mask (a .start .now) (none c) in
-    ended blank (ap length (sym is))
-    (λ old rows.
-    subst (λ (ys : List ℕ). Rowed p mask (keptWithin p mask (among (a .start .now))) ys old (blank .blank .last .1 .1 .0))
-    (sym is) rows)
-    (λ k h. omega (arith, c .before .slice-known3 .given k))
-
 settles-requires : tie.Need-settles-requires
 settles-requires c κs = search needs
 
 by-stages-requires : tie.Need-by-stages-requires
 by-stages-requires c κs =
-    let blank = c .before .before .before .before .before .before .before in
+    let blank = c .before .before .before .before .before .before in
     let f = figures blank in
     let s = first blank in
     let a = s .args in
@@ -149,7 +128,7 @@ by-stages-requires c κs =
       (
         framed f,
         (
-          sym (c .before .before .before .settles .ensures) ∙ c .before .before .if2 .taken,
+          sym (c .before .before .before .settles .ensures) ∙ c .before .before .if1 .taken,
           (
             graphed f,
             (
@@ -164,22 +143,22 @@ by-stages-requires c κs =
       ),
     )
 
+same-length : tie.Need-same-length
+same-length c = search needs
+
 same-length-2 : tie.Need-same-length-2
 same-length-2 c = search needs
 
-same-length-3 : tie.Need-same-length-3
-same-length-3 c = search needs
-
-returns-2 : tie.Need-returns-2
-returns-2 c =
+returns : tie.Need-returns
+returns c =
     let call = c .before .before .before .before in
-    let blank = call .before .before .before .before .before .before .before .before in
+    let blank = call .before .before .before .before .before .before .before in
     ended blank (call .by-stages .ensures .0) (call .by-stages .ensures .1)
     (λ k h. omega (arith, c .slice-known5 .given k))
 
 at-once-requires : tie.Need-at-once-requires
 at-once-requires c κs =
-    let blank = c .before .before .before .before .before .before .before in
+    let blank = c .before .before .before .before .before .before in
     let f = figures blank in
     let s = first blank in
     let a = s .args in
@@ -189,7 +168,7 @@ at-once-requires c κs =
       (
         framed f,
         (
-          sym (c .before .before .before .settles .ensures) ∙ c .before .before .if2 .left,
+          sym (c .before .before .before .settles .ensures) ∙ c .before .before .if1 .left,
           (
             (
               graphed f,
@@ -205,16 +184,16 @@ at-once-requires c κs =
       ),
     )
 
+same-length-3 : tie.Need-same-length-3
+same-length-3 c = search needs
+
 same-length-4 : tie.Need-same-length-4
 same-length-4 c = search needs
 
-same-length-5 : tie.Need-same-length-5
-same-length-5 c = search needs
-
-returns-3 : tie.Need-returns-3
-returns-3 c =
+returns-2 : tie.Need-returns-2
+returns-2 c =
     let call = c .before .before in
-    let blank = call .before .before .before .before .before .before .before .before in
+    let blank = call .before .before .before .before .before .before .before in
     ended blank (call .at-once .ensures .0) (call .at-once .ensures .1) (λ k h. omega (arith, c .slice-known6 .given k))
 
 pub solved-spec : {M : Type 1} → statement M
@@ -224,14 +203,12 @@ solved-spec =
     frame-of-requires
     mul-blank
     blank-requires
-    same-length
-    returns
     settles-requires
     by-stages-requires
+    same-length
     same-length-2
-    same-length-3
-    returns-2
+    returns
     at-once-requires
+    same-length-3
     same-length-4
-    same-length-5
-    returns-3)
+    returns-2)

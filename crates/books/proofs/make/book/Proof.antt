@@ -45,7 +45,7 @@ started : (c : tie.After-allowed)
 started c =
     let t = c .before .before .before in
     struck _ _ (c .allowed .last .1 .0) _ _ (t .states .ensures .1) (t .states .ensures .0 ∙ sym (length-numbers _ 0))
-    (room t) (c .allowed .ensures .0) (c .allowed .ensures .1)
+    (room t) (c .allowed .kept .1 .0) (c .allowed .ensures .0) (c .allowed .ensures .1)
 
 array-share-prefix-list : tie.Need-array-share-prefix-list
 array-share-prefix-list c = started (c .before) .0

@@ -5,31 +5,26 @@ use mathlib.Core.Logic.{⊎-elim}
 use Prim.Native.Nat.{_-_}
 use native.Mathlib.Omega.{arith}
 use borrow.Author.Needs.{needs}
+use borrow.Author.Tests.{not-true, not-false}
 use Rattle.statements.specs.Plants.{plantOf, allowed}
-use Rattle.arrays.proofs.Sieves.{Sieved, sieve-start, sieve-yes, sieve-no, sieve-end}
+use Rattle.books.proofs.Struck.{Struck, strike-start, strike-yes, strike-no, strike-end}
 use Rattle.books.proofs.start.allowed.Statement.{statement}
 use Rattle.books.proofs.start.allowed.Tie as tie
 
 abbrev Inv-loop : tie.InvT-loop
-Inv-loop plant list₀ count kept₀ k₀ list kept k = Sieved (allowed (plantOf plant)) count list₀ list kept k
+Inv-loop plant list₀ count kept₀ k₀ list kept k = Struck (allowed (plantOf plant)) count list₀ list kept k
 
 abbrev μ-loop : tie.MeasureT-loop
 μ-loop plant list₀ count kept₀ k₀ list kept k = count - k
 
 loop-holds : tie.Need-loop-holds Inv-loop μ-loop
-loop-holds c = sieve-start _ _ _ (c .before .before .pre)
+loop-holds c = strike-start _ _ _ (c .before .before .pre)
 
 mul-state : tie.Need-mul-state Inv-loop μ-loop
 mul-state c = omega arith
 
 slice-read-state : tie.Need-slice-read-state Inv-loop μ-loop
 slice-read-state c = omega arith
-
-cast-is-allowed : tie.Need-cast-is-allowed Inv-loop μ-loop
-cast-is-allowed c = omega (arith, c .slice-known2 .given (c .before .before .loop .k))
-
-is-allowed-requires : tie.Need-is-allowed-requires Inv-loop μ-loop
-is-allowed-requires c κs = search needs
 
 sub-list : tie.Need-sub-list Inv-loop μ-loop
 sub-list c = omega arith
@@ -42,6 +37,12 @@ mul-list c = omega arith
 
 slice-write-list : tie.Need-slice-write-list Inv-loop μ-loop
 slice-write-list c = omega arith
+
+cast-is-allowed : tie.Need-cast-is-allowed Inv-loop μ-loop
+cast-is-allowed c = omega (arith, c .slice-known2 .given (c .before .before .loop .k))
+
+is-allowed-requires : tie.Need-is-allowed-requires Inv-loop μ-loop
+is-allowed-requires c κs = search needs
 
 sub-kept : tie.Need-sub-kept Inv-loop μ-loop
 sub-kept c = omega arith
@@ -59,15 +60,15 @@ loop-again c =
     let more = t .loop-test .taken in
     let may = c .before .is-allowed .ensures in
     ⊎-elim
-    (λ w. rw (w .1, w .2) (sieve-yes inv more (sym may ∙ w .0 .taken)))
-    (λ w. rw (w .1, w .2) (sieve-no inv more (sym may ∙ w .0 .left)))
+    (λ w. rw (w .1) (strike-no inv more (sym may ∙ not-true _ (w .0 .taken))))
+    (λ w. rw (w .1) (strike-yes inv more (sym may ∙ not-false _ (w .0 .left))))
     (c .if1 .came)
 
 same-length : tie.Need-same-length Inv-loop μ-loop
 same-length c = c .before .loop .inv .size
 
 returns : tie.Need-returns Inv-loop μ-loop
-returns c = sieve-end (c .before .loop .inv) (omega (arith, c .loop-test .left))
+returns c = strike-end (c .before .loop .inv) (omega (arith, c .loop-test .left))
 
 pub allowed-spec : {M : Type 1} → statement M
 allowed-spec =
@@ -78,12 +79,12 @@ allowed-spec =
     loop-holds
     mul-state
     slice-read-state
-    cast-is-allowed
-    is-allowed-requires
     sub-list
     sub-list-2
     mul-list
     slice-write-list
+    cast-is-allowed
+    is-allowed-requires
     sub-kept
     add-k
     loop-less

@@ -65,7 +65,7 @@ started : (c : tie.After-allowed)
 started c =
     let t = c .before .before .before in
     struck _ _ (c .allowed .last .1 .0) _ _ (t .kept .ensures .1) (t .kept .ensures .0) (room t)
-    (c .allowed .ensures .0) (c .allowed .ensures .1)
+    (c .allowed .kept .1 .0) (c .allowed .ensures .0) (c .allowed .ensures .1)
 
 array-share-prefix-list : tie.Need-array-share-prefix-list
 array-share-prefix-list c = started (c .before .before) .0

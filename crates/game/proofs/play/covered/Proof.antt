@@ -1,32 +1,27 @@
--- `game::play::covered` meets its contract: before each turn the numbers so far are above 0. Assumes nothing.
-use Prim.Native.Nat.{ℕ, _-_, _<_, _≤_}
+-- `game::play::covered` meets its contract: before each turn the answer is that for the numbers so far. Assumes nothing.
+use Prim.Native.Nat.{_-_}
 use native.Mathlib.Omega.{arith}
-use borrow.Author.Count.{below-more}
 use denote.Ref.{now}
+use lib.Dec.{ltb}
 use lib.ListN.{length, getD}
-use Rattle.game.proofs.Opening.{covered-no, covered-yes}
+use Rattle.arrays.proofs.Gathered.{Gathered, gathered-none, gathered-more, gathered-all}
 use Rattle.game.proofs.play.covered.Statement.{statement}
 use Rattle.game.proofs.play.covered.Tie as tie
 
 abbrev Inv-loop : tie.InvT-loop
-Inv-loop sizes g₀ g = (k : ℕ) → k < g → 1 ≤ getD sizes k 0
+Inv-loop sizes g₀ good₀ g good = Gathered (length sizes) (λ k. ltb 0 (getD sizes k 0)) g good
 
 abbrev μ-loop : tie.MeasureT-loop
-μ-loop sizes g₀ g = length sizes - g
+μ-loop sizes g₀ good₀ g good = length sizes - g
 
 loop-holds : tie.Need-loop-holds Inv-loop μ-loop
-loop-holds c k h = absurd (omega arith)
+loop-holds c = gathered-none _ _
 
-mul-if1 : tie.Need-mul-if1 Inv-loop μ-loop
-mul-if1 c = omega arith
+mul-good : tie.Need-mul-good Inv-loop μ-loop
+mul-good c = omega arith
 
-shared-slice-read-if1 : tie.Need-shared-slice-read-if1 Inv-loop μ-loop
-shared-slice-read-if1 c = omega arith
-
-returns : tie.Need-returns Inv-loop μ-loop
-returns c =
-    covered-no (now (c .before .before .before .before .args .sizes)) _ (c .before .before .loop-test .taken)
-    (c .if1 .taken)
+shared-slice-read-good : tie.Need-shared-slice-read-good Inv-loop μ-loop
+shared-slice-read-good c = omega arith
 
 add-g : tie.Need-add-g Inv-loop μ-loop
 add-g c = omega arith
@@ -36,12 +31,15 @@ loop-less c = omega arith
 
 loop-again : tie.Need-loop-again Inv-loop μ-loop
 loop-again c =
-    let s = c .before .before .before .before .args in
-    below-more (λ (k : ℕ). 1 ≤ getD (now (s .sizes)) k 0) _ (c .before .before .before .loop .inv) (c .if1 .left)
+    let l = c .before .before .loop in
+    let sizes = now (c .before .before .before .args .sizes) in
+    gathered-more _ (λ k. ltb 0 (getD sizes k 0)) (l .g) (l .inv) (omega arith)
 
-returns-2 : tie.Need-returns-2 Inv-loop μ-loop
-returns-2 c =
-    covered-yes (now (c .before .before .args .sizes)) (λ g h. c .before .loop .inv g (omega (arith, c .loop-test .left)))
+returns : tie.Need-returns Inv-loop μ-loop
+returns c =
+    let l = c .before .loop in
+    let sizes = now (c .before .before .args .sizes) in
+    gathered-all _ (λ k. ltb 0 (getD sizes k 0)) (l .g) (l .inv) (omega arith)
 
 pub covered-spec : {M : Type 1} → statement M
 covered-spec =
@@ -50,10 +48,9 @@ covered-spec =
     Inv-loop
     μ-loop
     loop-holds
-    mul-if1
-    shared-slice-read-if1
-    returns
+    mul-good
+    shared-slice-read-good
     add-g
     loop-less
     loop-again
-    returns-2)
+    returns)

@@ -1,9 +1,7 @@
 -- `game::play::sound` meets its contract: one test after the other. Assumes nothing.
-use mathlib.Core.Path.{sym}
 use native.Mathlib.Omega.{arith}
 use borrow.Author.Needs.{needs}
 use denote.Ref.{now}
-use lib.Seq.{length-take-le}
 use Rattle.game.specs.Packed.{part, groupsIn, revIn, startsIn}
 use Rattle.game.proofs.Checks.{four-tests}
 use Rattle.game.proofs.Parts.{groups-front, rev-end}
@@ -55,6 +53,9 @@ part-below-end c =
     let s = p .before .before .before in
     omega (arith, p .places .ensures, rev-end (now (s .args .graph)) (s .pre))
 
+cast-below : tie.Need-cast-below
+cast-below c = search needs
+
 below-requires : tie.Need-below-requires
 below-requires c κs = search needs
 
@@ -62,6 +63,9 @@ slice-aggregate-below : tie.Need-slice-aggregate-below
 slice-aggregate-below c =
     let s = c .before .before .before .before .before .before .before .before in
     groups-front (now (s .args .graph)) (s .pre)
+
+cast-below-2 : tie.Need-cast-below-2
+cast-below-2 c = search needs
 
 below-requires-2 : tie.Need-below-requires-2
 below-requires-2 c κs = search needs
@@ -95,8 +99,10 @@ sound-spec =
     sub-below
     part-below-start
     part-below-end
+    cast-below
     below-requires
     slice-aggregate-below
+    cast-below-2
     below-requires-2
     rises-requires
     returns)

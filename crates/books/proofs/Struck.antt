@@ -1,0 +1,109 @@
+-- A loop that writes each number of a list's front to its place among those that pass a test, and counts off the ones
+-- that fail: what is left at the front. Assumes nothing.
+use mathlib.Core.Path.{_≡_, refl, sym, ap, _∙_}
+use mathlib.Core.Bool.{Bool, true, false}
+use mathlib.Core.List.{List, [], _∷_, _++_, append-nil}
+use Prim.Native.Nat.{ℕ, _+_, _-_, _≤_, _<_}
+use native.Mathlib.Nat.{add-zero}
+use native.Mathlib.Numerals.{add-one}
+use native.Mathlib.Omega.{arith}
+use lib.ListN.{length, getD, take, drop, set, length-set}
+use lib.Seq.{take-suc, take-suc-set, take-set-le, drop-set-lt, drop-drop, getD-drop, length-take-le}
+use Rattle.statements.specs.Sets.{consIf, filter}
+use Rattle.sets.proofs.Members.{filter-snoc}
+
+-- k of the first `count` numbers are read, and `kept` is how many passed together with those not read yet: the ones that
+-- passed stand at the front, and those not read yet are as they were
+pub record Struck (f : ℕ → Bool) (count : ℕ) (old new : List ℕ) (kept k : ℕ) : Type 0 where
+  pub within : k ≤ count
+  pub room : count ≤ length old
+  pub size : length new ≡ length old
+  pub most : kept ≤ count
+  pub least : count ≤ kept + k
+  pub front : take (k - (count - kept)) new ≡ filter f (take k old)
+  pub rest : drop k new ≡ drop k old
+
+-- nothing is read yet, and all are kept
+pub strike-start : (f : ℕ → Bool) (count : ℕ) (old : List ℕ) → count ≤ length old → Struck f count old old count 0
+unfolding filter
+strike-start f count old h =
+    let none : 0 - (count - count) ≡ 0 = omega arith in
+    record {
+      within = omega arith;
+      room = h;
+      size = refl;
+      most = omega arith;
+      least = omega arith;
+      front = rw none;
+      rest = refl;
+    }
+
+module _ {f : ℕ → Bool} {count : ℕ} {old new : List ℕ} {kept k : ℕ} (r : Struck f count old new kept k) where
+  -- all are read: those that passed stand at the front, and the number kept is exactly theirs
+  pub strike-end : k ≡ count
+      → (kept ≡ length (filter f (take count old))) × (take kept new ≡ filter f (take count old))
+  strike-end e =
+      let all : k - (count - kept) ≡ kept = omega (arith, r .most) in
+      let here : take kept new ≡ filter f (take count old) =
+      ap (λ (n : ℕ). take n new) (sym all) ∙ r .front ∙ ap (λ (n : ℕ). filter f (take n old)) e in
+      (sym (length-take-le kept new (omega (arith, r .most, r .room, r .size))) ∙ ap length here, here)
+
+  module _ (more : k < count) where
+    -- the next number is as it was, and is read with those before it
+    next-same : getD new k 0 ≡ getD old k 0
+    next-same =
+        ap (λ (i : ℕ). getD new i 0) (sym (add-zero k)) ∙ sym (getD-drop k new 0 0)
+        ∙ ap (λ (l : List ℕ). getD l 0 0) (r .rest)
+        ∙ getD-drop k old 0 0 ∙ ap (λ (i : ℕ). getD old i 0) (add-zero k)
+
+    next-filter : filter f (take (k + 1) old) ≡ filter f (take k old) ++ consIf (f (getD new k 0)) (getD new k 0) []
+    next-filter =
+        rw (next-same, add-one, take-suc old k 0 (omega (arith, r .room))) (filter-snoc f (take k old) (getD old k 0))
+
+    -- it is written to its place, and those after it are as they were
+    abbrev Put : List ℕ
+    Put = set new (k - (count - kept)) (getD new k 0)
+
+    put-rest : drop (k + 1) Put ≡ drop (k + 1) old
+    put-rest =
+        drop-set-lt (k + 1) new (k - (count - kept)) (getD new k 0) (omega arith)
+        ∙ sym (drop-drop 1 k new) ∙ ap (drop 1) (r .rest) ∙ drop-drop 1 k old
+
+    -- one that passes is kept there
+    pub strike-yes : f (getD new k 0) ≡ true → Struck f count old Put kept (k + 1)
+    strike-yes t =
+        let m = k - (count - kept) in
+        let x = getD new k 0 in
+        let both : filter f (take (k + 1) old) ≡ filter f (take k old) ++ (x ∷ []) = rw t at next-filter in
+        let place : k + 1 - (count - kept) ≡ m + 1 = omega (arith, r .least, r .most) in
+        record {
+          within = omega arith;
+          room = r .room;
+          size = length-set new m x ∙ r .size;
+          most = r .most;
+          least = omega (arith, r .least);
+          front =
+              ap (λ (n : ℕ). take n Put) (place ∙ add-one m)
+              ∙ take-suc-set new m x (omega (arith, r .size, r .room))
+              ∙ ap (λ (l : List ℕ). l ++ (x ∷ [])) (r .front) ∙ sym both;
+          rest = put-rest;
+        }
+
+    -- one that fails is counted off, and its place is the next one's
+    pub strike-no : f (getD new k 0) ≡ false → Struck f count old Put (kept - 1) (k + 1)
+    strike-no t =
+        let m = k - (count - kept) in
+        let x = getD new k 0 in
+        let same : filter f (take (k + 1) old) ≡ filter f (take k old) =
+        rw t at next-filter ∙ append-nil (filter f (take k old)) in
+        let place : k + 1 - (count - (kept - 1)) ≡ m = omega (arith, r .least, r .most) in
+        record {
+          within = omega arith;
+          room = r .room;
+          size = length-set new m x ∙ r .size;
+          most = omega (arith, r .most);
+          least = omega (arith, r .least);
+          front =
+              ap (λ (n : ℕ). take n Put) place ∙ take-set-le m new m x (omega arith) ∙ r .front ∙ sym same;
+          rest = put-rest;
+        }
