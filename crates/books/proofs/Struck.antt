@@ -1,16 +1,25 @@
 -- A loop that writes each number of a list's front to its place among those that pass a test, and counts off the ones
--- that fail: what is left at the front. Assumes nothing.
+-- that fail: what is left at the front. And what the labels say of the states. Assumes nothing.
 use mathlib.Core.Path.{_≡_, refl, sym, ap, _∙_}
+use mathlib.Core.Logic.{⊎-elim}
 use mathlib.Core.Bool.{Bool, true, false}
 use mathlib.Core.List.{List, [], _∷_, _++_, append-nil}
-use Prim.Native.Nat.{ℕ, _+_, _-_, _≤_, _<_}
+use Prim.Native.Nat.{ℕ, _+_, _-_, _*_, _≤_, _<_}
 use native.Mathlib.Nat.{add-zero}
 use native.Mathlib.Numerals.{add-one}
 use native.Mathlib.Omega.{arith}
-use lib.ListN.{length, getD, take, drop, set, length-set}
+use lib.Dec.{ltb}
+use lib.ListN.{length, getD, take, drop, set, replicate, length-set, length-replicate, getD-replicate}
+use lib.ListN.{List·getD-eq-default}
 use lib.Seq.{take-suc, take-suc-set, take-set-le, drop-set-lt, drop-drop, getD-drop, length-take-le}
-use Rattle.statements.specs.Sets.{consIf, filter}
+use borrow.Author.Tests.{ltb-true, ltb-false, le-ltb}
+use Rattle.statements.specs.Sets.{bit, pick, consIf, filter, over}
+use Rattle.statements.specs.Plants.{word, plantOf, headOk, allowed}
+use Rattle.sets.proofs.Tests.{decided}
+use Rattle.sets.proofs.Over.{over-first, over-at}
 use Rattle.sets.proofs.Members.{filter-snoc}
+use Rattle.format.specs.Checks.{labelsFit}
+use Rattle.format.proofs.Header.{plant-head}
 
 -- k of the first `count` numbers are read, and `kept` is how many passed together with those not read yet: the ones that
 -- passed stand at the front, and those not read yet are as they were
@@ -107,3 +116,31 @@ module _ {f : ℕ → Bool} {count : ℕ} {old new : List ℕ} {kept k : ℕ} (r
               ap (λ (n : ℕ). take n Put) place ∙ take-set-le m new m x (omega arith) ∙ r .front ∙ sym same;
           rest = put-rest;
         }
+
+-- zeros have zeros at every place
+zero-at : (n x : ℕ) → getD (replicate {A = ℕ} n 0) x 0 ≡ 0
+zero-at n x =
+    ⊎-elim
+    (λ t. getD-replicate n x 0 0 (ltb-true x n t))
+    (λ f. List·getD-eq-default (replicate {A = ℕ} n 0) 0 {n = x} (omega (arith, ltb-false x n f, length-replicate {A = ℕ} n 0)))
+    (decided (ltb x n))
+
+-- the labels of a plant over zeros say which states are allowed
+pub labels-say : (s new : List ℕ) → headOk s ≡ true
+    → new ≡ pick (labelsFit s (replicate 1024 0)) (over (plantOf s .labels) (replicate 1024 0)) (replicate 1024 0)
+    → (x : ℕ) → bit 0 (getD new x 0) ≡ allowed (plantOf s) x
+unfolding labelsFit allowed
+labels-say s new h e x =
+    let zeros : List ℕ = replicate 1024 0 in
+    let labels = plantOf s .labels in
+    let head = plant-head s h in
+    let bytes : 16 + 2 * word 0 s ≤ length s = omega (arith, head .long) in
+    let room : word 0 s ≤ length zeros = omega (arith, head .sizes .states-most, length-replicate {A = ℕ} 1024 0) in
+    let fit : labelsFit s zeros ≡ true = rw (le-ltb _ _ bytes, le-ltb _ _ room) in
+    let is : new ≡ over labels zeros = e ∙ ap (λ (b : Bool). pick b (over labels zeros) zeros) fit in
+    let same : getD (over labels zeros) x 0 ≡ getD labels x 0 = ⊎-elim
+    (λ t. over-first labels zeros x (ltb-true x (length labels) t))
+    (λ f. let past = ltb-false x (length labels) f in
+    over-at labels zeros x past ∙ zero-at 1024 x ∙ sym (List·getD-eq-default labels 0 {n = x} past))
+    (decided (ltb x (length labels))) in
+    ap (bit 0) (ap (λ (ys : List ℕ). getD ys x 0) is ∙ same)

@@ -14,7 +14,7 @@ ghost use lib.Bits.{bitAnd};
 ghost use lib.ListN.{length, getD, take, drop};
 ghost use Rattle.format.specs.Checks.{labelsFit, labelsFine, arrowsFine, leastAfter};
 ghost use Rattle.statements.specs.Sets.{pick, over};
-ghost use Rattle.statements.specs.Plants.{word, words, arrowsFrom, plantOf, allowed, settled};
+ghost use Rattle.statements.specs.Plants.{word, words, arrowsFrom, plantOf, settled};
 ghost use Rattle.statements.specs.Plants.{headOk, labelsOk, arrowsOk};
 ghost use Rattle.statements.specs.Books.{bookLong};
 
@@ -188,13 +188,6 @@ pub fn labels_to(plant: &[u8], to: &mut [u16])
         to[x] = word_in(plant, 16 + 2 * x);
         x += 1;
     }
-}
-
-// A state is allowed.
-pub fn is_allowed(plant: &[u8], state: u32) -> bool
-    ensures { λ r. ⌜ r ≡ allowed (plantOf (now (plant .entry))) state ⌝ }
-{
-    bit_at(label(plant, state) as u32, 0)
 }
 
 // A state is settled.

@@ -34,7 +34,7 @@ room c =
     omega (arith, c .states .ensures .0, few (c .before .before .before .before), c .states .kept .1 .0)
 
 allowed-requires : tie.Need-allowed-requires
-allowed-requires c κs = room (c .before .before)
+allowed-requires c κs = (c .before .before .before .before .before .before .pre .0, room (c .before .before))
 
 -- the allowed states are left, at the front
 started : (c : tie.After-allowed)

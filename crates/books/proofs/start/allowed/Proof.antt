@@ -1,93 +1,50 @@
--- `books::start::allowed` meets its contract: after k turns the front holds those of the first k states that are
--- allowed, and the number kept is exact. Assumes nothing.
-use mathlib.Core.Path.{sym, _∙_}
-use mathlib.Core.Logic.{⊎-elim}
-use Prim.Native.Nat.{_-_}
-use native.Mathlib.Omega.{arith}
+-- `books::start::allowed` meets its contract: the labels read say which states are allowed. Assumes nothing.
+use mathlib.Core.Path.{_≡_, ap, _∙_}
+use lib.ListN.{length, getD, take}
+use denote.Ref.{now}
 use borrow.Author.Needs.{needs}
-use borrow.Author.Tests.{not-true, not-false}
+use Rattle.statements.specs.Sets.{bit, filter}
 use Rattle.statements.specs.Plants.{plantOf, allowed}
-use Rattle.books.proofs.Struck.{Struck, strike-start, strike-yes, strike-no, strike-end}
+use Rattle.sets.proofs.Members.{filter-same}
+use Rattle.books.proofs.Struck.{labels-say}
 use Rattle.books.proofs.start.allowed.Statement.{statement}
 use Rattle.books.proofs.start.allowed.Tie as tie
 
-abbrev Inv-loop : tie.InvT-loop
-Inv-loop plant list₀ count kept₀ k₀ list kept k = Struck (allowed (plantOf plant)) count list₀ list kept k
+slice-aggregate-labels-to : tie.Need-slice-aggregate-labels-to
+slice-aggregate-labels-to c = search needs
 
-abbrev μ-loop : tie.MeasureT-loop
-μ-loop plant list₀ count kept₀ k₀ list kept k = count - k
+labels-to-requires : tie.Need-labels-to-requires
+labels-to-requires c κs = search needs
 
-loop-holds : tie.Need-loop-holds Inv-loop μ-loop
-loop-holds c = strike-start _ _ _ (c .before .before .pre)
+slice-aggregate-strike-out : tie.Need-slice-aggregate-strike-out
+slice-aggregate-strike-out c = search needs
 
-mul-state : tie.Need-mul-state Inv-loop μ-loop
-mul-state c = omega arith
+strike-out-requires : tie.Need-strike-out-requires
+strike-out-requires c κs = c .before .before .before .before .before .before .before .pre .1
 
-slice-read-state : tie.Need-slice-read-state Inv-loop μ-loop
-slice-read-state c = omega arith
+same-length : tie.Need-same-length
+same-length c = search needs
 
-sub-list : tie.Need-sub-list Inv-loop μ-loop
-sub-list c = omega arith
-
-sub-list-2 : tie.Need-sub-list-2 Inv-loop μ-loop
-sub-list-2 c = omega arith
-
-mul-list : tie.Need-mul-list Inv-loop μ-loop
-mul-list c = omega arith
-
-slice-write-list : tie.Need-slice-write-list Inv-loop μ-loop
-slice-write-list c = omega arith
-
-cast-is-allowed : tie.Need-cast-is-allowed Inv-loop μ-loop
-cast-is-allowed c = omega (arith, c .slice-known2 .given (c .before .before .loop .k))
-
-is-allowed-requires : tie.Need-is-allowed-requires Inv-loop μ-loop
-is-allowed-requires c κs = search needs
-
-sub-kept : tie.Need-sub-kept Inv-loop μ-loop
-sub-kept c = omega arith
-
-add-k : tie.Need-add-k Inv-loop μ-loop
-add-k c = omega arith
-
-loop-less : tie.Need-loop-less Inv-loop μ-loop
-loop-less c = omega arith
-
-loop-again : tie.Need-loop-again Inv-loop μ-loop
-loop-again c =
-    let t = c .before .before .before in
-    let inv = t .before .loop .inv in
-    let more = t .loop-test .taken in
-    let may = c .before .is-allowed .ensures in
-    ⊎-elim
-    (λ w. rw (w .1) (strike-no inv more (sym may ∙ not-true _ (w .0 .taken))))
-    (λ w. rw (w .1) (strike-yes inv more (sym may ∙ not-false _ (w .0 .left))))
-    (c .if1 .came)
-
-same-length : tie.Need-same-length Inv-loop μ-loop
-same-length c = c .before .loop .inv .size
-
-returns : tie.Need-returns Inv-loop μ-loop
-returns c = strike-end (c .before .loop .inv) (omega (arith, c .loop-test .left))
+returns : tie.Need-returns
+returns c =
+    let call = c .before .before in
+    let read = call .before .before .before .before in
+    let s = read .before .before .before .before in
+    let plant = now (s .args .plant) in
+    let list = take (s .args .count) (now (s .args .list)) in
+    let labels = read .labels-to .last .1 .0 in
+    let same : filter (λ x. bit 0 (getD labels x 0)) list ≡ filter (allowed (plantOf plant)) list =
+    filter-same (λ x. bit 0 (getD labels x 0)) (allowed (plantOf plant)) list
+    (λ x m. labels-say plant labels (s .pre .0) (read .labels-to .ensures) x) in
+    (call .strike-out .ensures .0 ∙ ap length same, call .strike-out .ensures .1 ∙ same)
 
 pub allowed-spec : {M : Type 1} → statement M
 allowed-spec =
     tie.close
     (tie.spec
-    Inv-loop
-    μ-loop
-    loop-holds
-    mul-state
-    slice-read-state
-    sub-list
-    sub-list-2
-    mul-list
-    slice-write-list
-    cast-is-allowed
-    is-allowed-requires
-    sub-kept
-    add-k
-    loop-less
-    loop-again
+    slice-aggregate-labels-to
+    labels-to-requires
+    slice-aggregate-strike-out
+    strike-out-requires
     same-length
     returns)

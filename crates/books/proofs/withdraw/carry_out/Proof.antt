@@ -54,7 +54,9 @@ room c =
     omega (arith, c .kept .ensures .0, most, few s, states s, c .kept .kept .1 .0)
 
 allowed-requires : tie.Need-allowed-requires
-allowed-requires c κs = room (c .before .before)
+allowed-requires c κs =
+    let s = c .before .before .before .before .before .before .before .before in
+    (make-parts _ _ _ (ok s .make) .0, room (c .before .before))
 
 -- the allowed ones of them are left, at the front
 started : (c : tie.After-allowed)
