@@ -1,12 +1,12 @@
 #!/usr/bin/env bash
 # Instructions of the proved library for one make and one withdrawal of the highest move, as callgrind counts them, with
 # 512 and 1,024 states, and how they grow as an exponent: 1 is linear in the states, 2 quadratic. What is printed is the
-# mean over the first plants of each family. Counts do not change with what else the machine does.
+# mean over the plants of each family. Counts do not change with what else the machine does.
 #
 #   tests/counts.sh [FAMILY...]
 #
 # Without a name all families are counted but the slow ones, for which callgrind may take many minutes. PLANTS sets how
-# many plants there are of each family (3).
+# many plants there are of each family (12).
 set -euo pipefail
 cd "$(dirname "$0")/.."
 cargo build --quiet --release --offline --bin bench
@@ -19,7 +19,7 @@ trap 'rm -rf "$work"' EXIT
 counts() {
     local plants
     plants=$(valgrind --quiet --tool=callgrind --callgrind-out-file="$work/out" \
-        "$bench" --count "$1" "$2" "${PLANTS:-3}" 2>"$work/log") || { cat "$work/log" >&2; return 1; }
+        "$bench" --count "$1" "$2" "${PLANTS:-12}" 2>"$work/log") || { cat "$work/log" >&2; return 1; }
     callgrind_annotate --inclusive=yes --threshold=100 --show-percs=no "$work/out" >"$work/costs"
     for call in make withdraw; do
         awk -v name=":planbook_$call\$" -v plants="$plants" '

@@ -1,17 +1,21 @@
 -- The loop before a reach, turn by turn: the nodes at which it begins line up. Assumes nothing.
 use mathlib.Core.Path.{_≡_, refl, ap, sym, _∙_}
+use mathlib.Core.Logic.{⊎-elim}
 use mathlib.Core.Bool.{Bool, true, false, _&&_, _||_}
+use mathlib.Core.Bool.{and-true as and-yes}
 use mathlib.Core.List.{List, [], _∷_, _++_, append-nil}
 use Prim.Native.Nat.{ℕ, suc, _+_, _≤_, _<_}
 use native.Mathlib.Omega.{arith}
 use native.Mathlib.Numerals.{add-one}
 use lib.Dec.{ltb}
 use lib.ListN.{length, getD, take, set, length-append, length-set}
-use lib.Seq.{take-suc, take-suc-set, take-set-le, take-length, length-take-le}
-use Rattle.statements.specs.Sets.{bit, isIn, filter, consIf}
-use Rattle.sets.proofs.Members.{filter-length, filter-snoc}
+use lib.Seq.{take-suc, take-suc-set, take-set-le, take-length, length-take-le, getD-set-same, getD-set-other}
+use Rattle.statements.specs.Sets.{bit, bits, pick, isIn, filter, consIf}
+use Rattle.sets.proofs.Tests.{same-number, and-none}
+use Rattle.sets.proofs.Bits.{bit-none, bits-at}
+use Rattle.sets.proofs.Members.{filter-length, filter-snoc, filter-same}
 use Rattle.game.specs.Packed.{goalOf, overAt}
-use Rattle.game.specs.Cuts.{aimed}
+use Rattle.game.specs.Cuts.{aimed, offered, Offers}
 use Rattle.game.proofs.Counts.{take-in}
 
 -- a place of a list holds a member
@@ -73,18 +77,38 @@ module _ (f : ℕ → Bool) (list old new : List ℕ) (tail k : ℕ) (c : Aimed 
           line = rw same (take-set-le tail new tail (getD list k 0) (omega arith) ∙ c .line);
         }
 
--- the test of a node at which a reach to goal i begins
-unfoldable pub aimsAt : List ℕ → List ℕ → ℕ → ℕ → Bool
-aimsAt labels member i x = overAt labels x || (goalOf labels i x && ltb (getD member x 0) 1)
+-- one node more has what it offers
+pub offers-more : (labels member bits : List ℕ) (x v : ℕ) → Offers labels member x bits → x < length bits
+    → v ≡ offered (getD labels x 0) (getD member x 0) → Offers labels member (x + 1) (set bits x v)
+offers-more labels member bits x v so-far room is y h =
+    ⊎-elim
+    (λ e. rw e (getD-set-same bits x v 0 room ∙ is))
+    (λ d. getD-set-other bits x y v 0 d ∙ so-far y (omega (arith, h, d)))
+    (same-number y x)
 
--- it is what `begins` returns, and what `aimed` sifts by
-pub aims-at : (labels member : List ℕ) (i x : ℕ) {b : Bool}
-    → b ≡ (bit 15 (getD labels x 0) || (bit (suc i) (getD labels x 0) && ltb (getD member x 0) 1))
-    → aimsAt labels member i x ≡ b
-unfolding aimsAt overAt goalOf
-aims-at labels member i x e = sym e
+-- all bits of 65535 are set
+full-bit : (i : ℕ) → i < 8 → bit (suc i) 65535 ≡ true
+unfolding bits
+full-bit i h = bits-at (λ x. true) 16 (suc i) (omega (arith, h))
 
-pub aimed-is : (labels member : List ℕ) (i : ℕ) (list : List ℕ)
-    → filter (aimsAt labels member i) list ≡ aimed labels member i list
-unfolding aimsAt aimed
-aimed-is labels member i list = refl
+-- a node offers something to goal i where a reach to it begins
+pub offered-at : (labels member bits : List ℕ) (n i x : ℕ) → Offers labels member n bits → x < n → i < 8
+    → goalOf bits i x ≡ (overAt labels x || (goalOf labels i x && ltb (getD member x 0) 1))
+unfolding goalOf overAt offered
+offered-at labels member bits n i x offers low goal =
+    ap (bit (suc i)) (offers x low)
+    ∙ told (bit 15 (getD labels x 0)) (ltb (getD member x 0) 1)
+  where
+    told : (over in-set : Bool) → bit (suc i) (pick over 65535 (pick in-set (getD labels x 0) 0))
+        ≡ (over || (bit (suc i) (getD labels x 0) && in-set))
+    told true in-set = full-bit i goal
+    told false true = sym (and-yes (bit (suc i) (getD labels x 0)))
+    told false false = bit-none (suc i) ∙ sym (and-none (bit (suc i) (getD labels x 0)) false refl)
+
+-- so those of a list that do are its targets
+pub targets-are : (labels member bits : List ℕ) (n i : ℕ) (list : List ℕ) → Offers labels member n bits
+    → ((x : ℕ) → isIn x list ≡ true → x < n) → i < 8 → filter (goalOf bits i) list ≡ aimed labels member i list
+unfolding aimed
+targets-are labels member bits n i list offers low goal =
+    filter-same (goalOf bits i) (λ x. overAt labels x || (goalOf labels i x && ltb (getD member x 0) 1)) list
+    (λ x m. offered-at labels member bits n i x offers (low x m) goal)

@@ -4,6 +4,7 @@ use crate::below;
 use crate::places;
 use crate::reach::Figures;
 use crate::reach::aim;
+use crate::reach::offers;
 use crate::reach::reach;
 use crate::rising;
 use crate::strike::cut;
@@ -209,9 +210,11 @@ fn seek(
     let nodes = game.nodes;
     let labels = graph.len() - 1024;
     let last = scratch.len() - 8;
+    let mut bits = [0u16; 1024];
+    offers(&graph[labels..labels + nodes], member, &mut bits);
     let mut goal = 0;
     while goal < game.goals {
-        let tail = aim(&graph[labels..labels + nodes], set, member, goal, queue);
+        let tail = aim(&bits, set, goal, queue);
         if scratch[last + goal] as usize != tail {
             scratch[last + goal] = tail as u16;
             let from = goal * nodes;

@@ -5,15 +5,14 @@ use arrays::copy;
 use arrays::mark;
 use format::word::bit_at;
 ghost use mathlib.Core.Path.{_≡_};
-ghost use mathlib.Core.Bool.{true, _&&_, _||_};
-ghost use Prim.Native.Nat.{ℕ, suc, _+_, _<_, _≤_};
-ghost use lib.Dec.{ltb};
+ghost use mathlib.Core.Bool.{true};
+ghost use Prim.Native.Nat.{ℕ, _+_, _<_, _≤_};
 ghost use lib.ListN.{length, take, replicate};
-ghost use Rattle.statements.specs.Sets.{bit, isIn};
+ghost use Rattle.statements.specs.Sets.{bit, isIn, filter};
 ghost use Rattle.arrays.specs.Lists.{zeroed};
 ghost use Rattle.game.specs.Walked.{walkedWaits};
-ghost use Rattle.game.specs.Packed.{groupsIn, revIn, startsIn};
-ghost use Rattle.game.specs.Cuts.{aimed};
+ghost use Rattle.game.specs.Packed.{groupsIn, revIn, startsIn, goalOf};
+ghost use Rattle.game.specs.Cuts.{offered, Offers};
 ghost use Rattle.game.specs.Playing.{Lined};
 
 // How many nodes, groups, positions and goals a game has, and how many nodes the set has.
@@ -33,36 +32,46 @@ fn bit_in(v: u32, i: u32) -> bool
     (v >> i) % 2 == 1
 }
 
-// Whether a reach to a goal begins at a node with a label: a run is over there, or it is in the goal and marked by 0.
-fn begins(label: u16, goal: usize, out: u16) -> bool
-    requires { ⌜ goal < 8 ⌝ }
-    ensures { λ r. ⌜ r ≡ (bit 15 label || (bit (suc goal) label && ltb out 1)) ⌝ }
+// What a node offers the goals, bit 1 + i for goal i: its label's bits where it is marked by 0, none where it is not, and
+// all where a run is over.
+fn offer(label: u16, out: u16) -> u16
+    ensures { λ r. ⌜ r ≡ offered label out ⌝ }
 {
-    let bits = label as u32;
-    bit_at(bits, 15) | (bit_in(bits, goal as u32 + 1) & (out < 1))
+    if bit_at(label as u32, 15) {
+        return 65535;
+    }
+    if out < 1 {
+        return label;
+    }
+    0
 }
 
-// Lists the nodes at which a reach to a goal begins; returns how many they are.
-pub(crate) fn aim(
-    labels: &[u16],
-    list: &[u16],
-    member: &[u16],
-    goal: usize,
-    queue: &mut [u16],
-) -> usize
-    requires nodes { ⌜ ((x : ℕ) → isIn x (now list) ≡ true → (x < length (now labels)) × (x < length (now member))) ⌝ }
+// Writes what each node offers. It is worked out once for a round, and each goal then looks at one bit.
+pub(crate) fn offers(labels: &[u16], member: &[u16], bits: &mut [u16])
+    requires { ⌜ (length (now labels) ≤ length (now member)) × (length (now labels) ≤ length (now bits)) ⌝ }
+    ensures { λ _. ⌜ Offers (now (labels .entry)) (now (member .entry)) (length (now (labels .entry)))
+        (now (bits .exit)) ⌝ }
+{
+    let mut x = 0;
+    while x < labels.len() {
+        bits[x] = offer(labels[x], member[x]);
+        x += 1;
+    }
+}
+
+// Lists the nodes that offer something to a goal, at which a reach to it begins; returns how many they are.
+pub(crate) fn aim(bits: &[u16], list: &[u16], goal: usize, queue: &mut [u16]) -> usize
+    requires nodes { ⌜ ((x : ℕ) → isIn x (now list) ≡ true → x < length (now bits)) ⌝ }
     requires room { ⌜ (goal < 8) × ((length (now list) ≤ length (now queue)) × (length (now list) ≤ 1024)) ⌝ }
-    ensures number { λ r. ⌜ r ≡ length (aimed (now (labels .entry)) (now (member .entry)) goal (now (list .entry))) ⌝ }
-    ensures list { λ r. ⌜ take r (now (queue .exit))
-        ≡ aimed (now (labels .entry)) (now (member .entry)) goal (now (list .entry)) ⌝ }
+    ensures number { λ r. ⌜ r ≡ length (filter (goalOf (now (bits .entry)) goal) (now (list .entry))) ⌝ }
+    ensures list { λ r. ⌜ take r (now (queue .exit)) ≡ filter (goalOf (now (bits .entry)) goal) (now (list .entry)) ⌝ }
 {
     let mut tail = 0;
     let mut k = 0;
     while k < list.len() {
         let node = list[k];
-        let x = node as usize;
         queue[tail] = node;
-        if begins(labels[x], goal, member[x]) {
+        if bit_in(bits[node as usize] as u32, goal as u32 + 1) {
             tail += 1;
         }
         k += 1;

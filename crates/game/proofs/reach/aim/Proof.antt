@@ -1,22 +1,22 @@
 -- `game::reach::aim` meets its contract: before each turn those of the nodes read at which a reach begins are in line.
 -- Assumes nothing.
-use mathlib.Core.Path.{_∙_}
+use mathlib.Core.Path.{sym, _∙_}
 use mathlib.Core.Logic.{⊎-elim}
 use Prim.Native.Nat.{_-_, _<_}
+use native.Mathlib.Numerals.{add-one}
 use native.Mathlib.Omega.{arith}
 use denote.Ref.{now}
 use lib.ListN.{length, getD}
-use Rattle.game.proofs.Aiming.{Aimed, aimsAt, aims-at, aimed-is, listed, aim-none, aim-few}
-use Rattle.game.proofs.Aiming.{aim-yes, aim-no, aim-end}
+use Rattle.game.specs.Packed.{goalOf}
+use Rattle.game.proofs.Aiming.{Aimed, listed, aim-none, aim-few, aim-yes, aim-no, aim-end}
 use Rattle.game.proofs.reach.aim.Statement.{statement}
 use Rattle.game.proofs.reach.aim.Tie as tie
 
 abbrev Inv-loop : tie.InvT-loop
-Inv-loop labels list member goal queue₀ tail₀ k₀ queue tail k =
-    Aimed (aimsAt labels member goal) list queue₀ queue tail k
+Inv-loop bits list goal queue₀ tail₀ k₀ queue tail k = Aimed (goalOf bits goal) list queue₀ queue tail k
 
 abbrev μ-loop : tie.MeasureT-loop
-μ-loop labels list member goal queue₀ tail₀ k₀ queue tail k = length list - k
+μ-loop bits list goal queue₀ tail₀ k₀ queue tail k = length list - k
 
 loop-holds : tie.Need-loop-holds Inv-loop μ-loop
 loop-holds c = aim-none _ _ _
@@ -27,26 +27,22 @@ mul-node c = omega arith
 shared-slice-read-node : tie.Need-shared-slice-read-node Inv-loop μ-loop
 shared-slice-read-node c = omega arith
 
--- the node read is one that has a label and a mark
+-- the node read is one that has its bits
 node : (c : tie.In-loop Inv-loop μ-loop)
-    → let s = c .before .before .before .before .before .before .args in
-    let x = getD (now (s .list)) (c .before .loop .k) 0 in
-    (x < length (now (s .labels))) × (x < length (now (s .member)))
+    → let s = c .before .before .before .before .before .args in
+    getD (now (s .list)) (c .before .loop .k) 0 < length (now (s .bits))
 node c =
-    let s = c .before .before .before .before .before .before in
+    let s = c .before .before .before .before .before in
     s .pre .0 _ (listed (now (s .args .list)) (c .before .loop .k) (c .loop-test .taken))
 
 -- there is a place for it
 room : (c : tie.In-loop Inv-loop μ-loop)
     → (c .before .loop .tail < length (c .before .loop .queue)) × (c .before .loop .tail < 1024)
 room c =
-    let s = c .before .before .before .before .before .before in
+    let s = c .before .before .before .before .before in
     let few = aim-few _ _ _ _ _ _ (c .before .loop .inv) in
     let l : c .before .loop .k < length (now (s .args .list)) = c .loop-test .taken in
     (omega (arith, few, l, s .pre .1, c .before .loop .inv .size), omega (arith, few, l, s .pre .1))
-
-cast-x : tie.Need-cast-x Inv-loop μ-loop
-cast-x c = omega (arith, c .shared-slice-known4 .given (c .before .before .loop .k))
 
 mul-queue : tie.Need-mul-queue Inv-loop μ-loop
 mul-queue c = omega (arith, room (c .before))
@@ -54,23 +50,31 @@ mul-queue c = omega (arith, room (c .before))
 slice-write-queue : tie.Need-slice-write-queue Inv-loop μ-loop
 slice-write-queue c = room (c .before) .0
 
-mul-begins : tie.Need-mul-begins Inv-loop μ-loop
-mul-begins c = omega (arith, c .shared-slice-known4 .given (c .before .before .loop .k))
+cast-bit-in : tie.Need-cast-bit-in Inv-loop μ-loop
+cast-bit-in c = omega (arith, c .shared-slice-known3 .given (c .before .before .loop .k))
 
-shared-slice-read-begins : tie.Need-shared-slice-read-begins Inv-loop μ-loop
-shared-slice-read-begins c = node (c .before .before) .0
+mul-bit-in : tie.Need-mul-bit-in Inv-loop μ-loop
+mul-bit-in c = omega (arith, c .shared-slice-known3 .given (c .before .before .loop .k))
 
-mul-begins-2 : tie.Need-mul-begins-2 Inv-loop μ-loop
-mul-begins-2 c = omega (arith, c .before .shared-slice-known4 .given (c .before .before .before .loop .k))
+shared-slice-read-bit-in : tie.Need-shared-slice-read-bit-in Inv-loop μ-loop
+shared-slice-read-bit-in c = node (c .before .before)
 
-shared-slice-read-begins-2 : tie.Need-shared-slice-read-begins-2 Inv-loop μ-loop
-shared-slice-read-begins-2 c = node (c .before .before .before) .1
+cast-bit-in-2 : tie.Need-cast-bit-in-2 Inv-loop μ-loop
+cast-bit-in-2 c =
+    let list = c .before .before .before .before .before .before .before .args .list .now in
+    omega (arith, c .shared-slice-known4 .given (getD list (c .before .before .before .loop .k) 0))
 
-begins-requires : tie.Need-begins-requires Inv-loop μ-loop
-begins-requires c κs = c .before .before .before .before .before .before .before .before .before .pre .1 .0
+cast-bit-in-3 : tie.Need-cast-bit-in-3 Inv-loop μ-loop
+cast-bit-in-3 c = omega (arith, c .before .before .before .before .before .before .before .pre .1 .0)
+
+add-bit-in : tie.Need-add-bit-in Inv-loop μ-loop
+add-bit-in c = omega (arith, c .before .before .before .before .before .before .before .pre .1 .0)
+
+bit-in-requires : tie.Need-bit-in-requires Inv-loop μ-loop
+bit-in-requires c κs = omega (arith, c .before .before .before .before .before .before .before .pre .1 .0)
 
 add-tail : tie.Need-add-tail Inv-loop μ-loop
-add-tail c = omega (arith, room (c .before .before .before .before .before))
+add-tail c = omega (arith, room (c .before .before .before .before))
 
 add-k : tie.Need-add-k Inv-loop μ-loop
 add-k c = omega arith
@@ -79,18 +83,21 @@ loop-less : tie.Need-loop-less Inv-loop μ-loop
 loop-less c = omega arith
 
 loop-again : tie.Need-loop-again Inv-loop μ-loop
+unfolding goalOf
 loop-again c =
-    let turn = c .before .before .before .before .before in
+    let turn = c .before .before .before .before in
     let inv = turn .before .loop .inv in
+    let goal = turn .before .before .before .before .before .args .goal in
+    let may = sym (rw (add-one goal) at (c .before .bit-in .ensures)) in
     ⊎-elim
     (λ w.
     rw (w .1)
     (aim-yes _ _ _ _ _ _ inv (turn .loop-test .taken)
-    (aims-at _ _ _ _ (c .before .begins .ensures) ∙ w .0 .taken) (room turn .0)))
+    (may ∙ w .0 .taken) (room turn .0)))
     (λ w.
     rw (w .1)
     (aim-no _ _ _ _ _ _ inv (turn .loop-test .taken)
-    (aims-at _ _ _ _ (c .before .begins .ensures) ∙ w .0 .left)))
+    (may ∙ w .0 .left)))
     (c .if1 .came)
 
 same-length : tie.Need-same-length Inv-loop μ-loop
@@ -98,10 +105,7 @@ same-length c = c .before .loop .inv .size
 
 returns : tie.Need-returns Inv-loop μ-loop
 returns c =
-    let s = c .before .before .before .before .before .before .args in
-    let inv = c .before .loop .inv in
-    rw (aimed-is (now (s .labels)) (now (s .member)) (s .goal) (now (s .list))) at
-    (aim-end _ _ _ _ _ _ inv (omega (arith, c .loop-test .left)))
+    aim-end _ _ _ _ _ _ (c .before .loop .inv) (omega (arith, c .loop-test .left))
 
 pub aim-spec : {M : Type 1} → statement M
 aim-spec =
@@ -112,14 +116,15 @@ aim-spec =
     loop-holds
     mul-node
     shared-slice-read-node
-    cast-x
     mul-queue
     slice-write-queue
-    mul-begins
-    shared-slice-read-begins
-    mul-begins-2
-    shared-slice-read-begins-2
-    begins-requires
+    cast-bit-in
+    mul-bit-in
+    shared-slice-read-bit-in
+    cast-bit-in-2
+    cast-bit-in-3
+    add-bit-in
+    bit-in-requires
     add-tail
     add-k
     loop-less
