@@ -11,7 +11,7 @@ ghost use mathlib.Core.Path.{_≡_};
 ghost use mathlib.Core.Bool.{true, _&&_};
 ghost use Prim.Native.Nat.{_+_, _-_, _*_, _≤_};
 ghost use lib.Bits.{bitAnd};
-ghost use lib.ListN.{length, getD, take, drop};
+ghost use lib.ListN.{length, getD, drop};
 ghost use Rattle.format.specs.Checks.{labelsFit, labelsFine, arrowsFine, leastAfter};
 ghost use Rattle.statements.specs.Sets.{pick, over};
 ghost use Rattle.statements.specs.Plants.{word, words, arrowsFrom, plantOf, settled};

@@ -15,7 +15,7 @@ use Rattle.sets.proofs.Tests.{same-number, and-none}
 use Rattle.sets.proofs.Bits.{bit-none, bits-at}
 use Rattle.sets.proofs.Members.{filter-length, filter-snoc, filter-same}
 use Rattle.game.specs.Packed.{goalOf, overAt}
-use Rattle.game.specs.Cuts.{aimed, offered, Offers}
+use Rattle.game.specs.Cuts.{offered, Offers}
 use Rattle.game.proofs.Counts.{take-in}
 
 -- a place of a list holds a member
@@ -76,6 +76,11 @@ module _ (f : ℕ → Bool) (list old new : List ℕ) (tail k : ℕ) (c : Aimed 
           number = rw same (c .number);
           line = rw same (take-set-le tail new tail (getD list k 0) (omega arith) ∙ c .line);
         }
+
+-- the nodes of a list where a reach to goal i begins: a run is over there, or they are in the goal and marked by 0
+unfoldable pub aimed : List ℕ → List ℕ → ℕ → List ℕ → List ℕ
+aimed labels member i list =
+    filter (λ x. overAt labels x || (goalOf labels i x && ltb (getD member x 0) 1)) list
 
 -- one node more has what it offers
 pub offers-more : (labels member bits : List ℕ) (x v : ℕ) → Offers labels member x bits → x < length bits

@@ -18,7 +18,7 @@ use Rattle.arrays.specs.Lists.{zeroed}
 use Rattle.game.specs.Walked.{nodes, canEnter, waitOf, walkedWaits}
 use Rattle.game.specs.Game.{aims, stepsTo}
 use Rattle.game.specs.Packed.{groupsIn, revIn, startsIn, labelsIn, goalOf, overAt, canIn}
-use Rattle.game.specs.Cuts.{aimed}
+use Rattle.game.proofs.Aiming.{aimed}
 use Rattle.game.specs.Playing.{Ready, RoundIn, Standing, Rest, lastEight}
 use Rattle.game.proofs.Parts.{starts-nodes}
 use Rattle.game.proofs.Playing.{round-skip, round-reach}

@@ -23,7 +23,8 @@ use Rattle.game.specs.Steps.{Index}
 use Rattle.game.specs.Game.{aims}
 use Rattle.game.specs.Packed.{goalOf, overAt}
 use Rattle.game.specs.Marks.{wholly, alive, endsAt, Marked, without}
-use Rattle.game.specs.Cuts.{aimed, others}
+use Rattle.game.specs.Cuts.{others}
+use Rattle.game.proofs.Aiming.{aimed}
 use Rattle.game.proofs.Counts.{count-same, count-zero, count-none, and-on}
 use Rattle.game.proofs.Levels.{can-to, can-from}
 use Rattle.game.proofs.Nodes.{node-has}

@@ -1,18 +1,12 @@
--- What the loops over lists of nodes leave: the targets of a goal, the nodes that a list leaves out, and a list cut down
--- to the nodes with a wait for each goal. Assumes nothing.
+-- What the loops over nodes leave: what each offers the goals, the nodes that a list leaves out, and a list cut down to
+-- the nodes with a wait for each goal. Assumes nothing.
 use mathlib.Core.Path.{_≡_}
-use mathlib.Core.Bool.{Bool, _&&_, _||_, not}
+use mathlib.Core.Bool.{Bool, not}
 use mathlib.Core.List.{List}
 use Prim.Native.Nat.{ℕ, _+_, _*_, _<_}
 use lib.Dec.{eqb, ltb}
 use lib.ListN.{getD}
 use Rattle.statements.specs.Sets.{bit, pick, numbers, every, isIn, filter}
-use Rattle.game.specs.Packed.{goalOf, overAt}
-
--- the nodes of a list where a reach to goal i begins: a run is over there, or they are in the goal and marked by 0
-unfoldable pub aimed : List ℕ → List ℕ → ℕ → List ℕ → List ℕ
-aimed labels member i list =
-    filter (λ x. overAt labels x || (goalOf labels i x && ltb (getD member x 0) 1)) list
 
 -- what a node offers the goals, bit 1 + i for goal i: all where a run is over, and otherwise its label's bits where it is
 -- marked by 0

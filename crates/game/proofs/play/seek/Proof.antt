@@ -10,9 +10,8 @@ use lib.ListN.{length, take, drop, set, length-set, length-drop}
 use lib.Seq.{length-take-le}
 use Rattle.sets.proofs.Iterate.{sifted-few, sifted-below}
 use Rattle.game.specs.Packed.{part, labelsIn}
-use Rattle.game.specs.Cuts.{aimed}
 use Rattle.game.proofs.Parts.{labels-length}
-use Rattle.game.proofs.Aiming.{targets-are}
+use Rattle.game.proofs.Aiming.{aimed, targets-are}
 use Rattle.game.proofs.Seeking.{Seeking, Turn, seek-none, seek-skip, seek-turn, seek-reach, seek-end}
 use Rattle.game.proofs.play.seek.Statement.{statement}
 use Rattle.game.proofs.play.seek.Tie as tie
