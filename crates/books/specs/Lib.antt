@@ -1,1 +1,2 @@
--- No definitions of its own: what the calls promise is in crate promises, specs/Says.antt.
+-- What the calls promise is in crate promises, specs/Says.antt; here are the two ways of a make and of a withdrawal.
+pub mod Ways

@@ -1,20 +1,23 @@
 // The public calls that write a book: make one, withdraw moves from it, once or by a list, or see what that would cost,
-// return moves to it.
+// return moves to it; and the one that writes the index of a plant.
 mod make;
 mod start;
 mod withdraw;
 
+use graph::Way;
 use promises::Answer;
 use promises::Cost;
 ghost use mathlib.Core.Path.{_≡_};
 ghost use Rattle.statements.specs.Demands.{Demand-2, Demand-3, In-turn, Returning};
-ghost use Rattle.promises.specs.Says.{MakeSays, WithdrawSays, WithdrawListSays, ReturnSays, PreviewSays};
-ghost use Rattle.promises.specs.Says.{Listed, Determined};
+ghost use Rattle.statements.specs.ByIndex.{By-index};
+ghost use Rattle.promises.specs.Says.{MakeSays, WithdrawSays, WithdrawListSays, ReturnSays, IndexSays, PreviewSays};
+ghost use Rattle.promises.specs.Says.{MakeIndexedSays, WithdrawIndexedSays, Listed, Determined};
 ghost use Rattle.promises.specs.Written.{Demand-2-written};
 ghost use Rattle.promises.specs.Previews.{Previews};
 ghost use Rattle.promises.specs.Traces.{Demand-3-traced};
 ghost use Rattle.promises.specs.InTurn.{In-turn-traced};
 ghost use Rattle.promises.specs.Returning.{Returning-traced};
+ghost use Rattle.promises.specs.Indexed.{Indexed};
 
 // The answer of a call that is refused.
 fn refused(number: u8) -> Answer
@@ -40,15 +43,35 @@ pub fn make_book(plant: &[u8], mask: u32, out: &mut [u8]) -> Answer
     if !refusals::make_ahead(plant, mask, room) {
         return refused(refusals::make(plant, mask, room));
     }
-    let length = make::book(plant, mask, out);
-    if length == 0 {
-        return refused(refusals::make(plant, mask, room));
+    let way = Way {
+        indexed: false,
+        mask: mask,
+    };
+    make::carry_out(plant, &plant[..0], way, out)
+}
+
+// Takes a plant, its index, a mask and a book buffer. Writes the very book that is made without the index and returns
+// its length.
+pub fn make_indexed(plant: &[u8], index: &[u8], mask: u32, out: &mut [u8]) -> Answer
+    ensures { λ r. ⌜ MakeIndexedSays (now (plant .entry)) (now (index .entry)) mask
+        (now (out .entry)) (now (out .exit)) r ⌝ }
+    ensures make_indexed_right { λ _. ⌜ Demand-2 ⌝ }
+    ensures make_indexed_written { λ _. ⌜ Demand-2-written ⌝ }
+    ensures make_indexed_afresh { λ _. ⌜ Demand-3 ⌝ }
+    ensures make_indexed_traced { λ _. ⌜ Demand-3-traced ⌝ }
+    ensures make_indexed_ways { λ _. ⌜ By-index ⌝ }
+    ensures make_indexed_against_plain { λ _. ⌜ Indexed ⌝ }
+    ensures make_indexed_determined { λ _. ⌜ Determined ⌝ }
+{
+    let room = out.len();
+    if !refusals::make_ahead(plant, mask, room) {
+        return refused(refusals::make_by(plant, index, mask, room));
     }
-    Answer {
-        number: 0,
-        length: length,
-        drops: 0,
-    }
+    let way = Way {
+        indexed: true,
+        mask: mask,
+    };
+    make::carry_out(plant, index, way, out)
 }
 
 // Takes a plant, a book, a mask of moves to withdraw, a book buffer and a drop buffer. Writes the book and, by rising
@@ -72,7 +95,34 @@ pub fn withdraw_moves(
     if !refusals::withdraw_ahead(plant, book, mask, out.len(), drops.len()) {
         return refused(refusals::withdraw(plant, book, mask, out.len(), drops.len()));
     }
-    withdraw::carry_out(plant, book, mask, out, drops)
+    withdraw::carry_out(plant, &plant[..0], false, book, mask, out, drops)
+}
+
+// Takes a plant, its index, a book, a mask of moves to withdraw, a book buffer and a drop buffer. Writes the very book
+// that is left without the index, and the same states; returns the book's length and how many they are.
+pub fn withdraw_indexed(
+    plant: &[u8],
+    index: &[u8],
+    book: &[u8],
+    mask: u32,
+    out: &mut [u8],
+    drops: &mut [u8],
+) -> Answer
+    ensures { λ r. ⌜ WithdrawIndexedSays (now (plant .entry)) (now (index .entry)) (now (book .entry)) mask
+        (now (out .entry)) (now (out .exit)) (now (drops .entry)) (now (drops .exit)) r ⌝ }
+    ensures withdraw_indexed_right { λ _. ⌜ Demand-2 ⌝ }
+    ensures withdraw_indexed_written { λ _. ⌜ Demand-2-written ⌝ }
+    ensures withdraw_indexed_afresh { λ _. ⌜ Demand-3 ⌝ }
+    ensures withdraw_indexed_traced { λ _. ⌜ Demand-3-traced ⌝ }
+    ensures withdraw_indexed_listed { λ _. ⌜ Listed ⌝ }
+    ensures withdraw_indexed_ways { λ _. ⌜ By-index ⌝ }
+    ensures withdraw_indexed_against_plain { λ _. ⌜ Indexed ⌝ }
+    ensures withdraw_indexed_determined { λ _. ⌜ Determined ⌝ }
+{
+    if !refusals::withdraw_ahead(plant, book, mask, out.len(), drops.len()) {
+        return refused(refusals::withdraw_by(plant, index, book, mask, out.len(), drops.len()));
+    }
+    withdraw::carry_out(plant, index, true, book, mask, out, drops)
 }
 
 // Takes a plant, a book, a list of up to 16 masks of moves to withdraw, four bytes each, a book buffer and a drop
@@ -98,7 +148,8 @@ pub fn withdraw_list(
     if !refusals::withdraw_list_ahead(plant, book, masks, out.len(), drops.len()) {
         return refused(refusals::withdraw_list(plant, book, masks, out.len(), drops.len()));
     }
-    withdraw::carry_out(plant, book, format::word::union(masks), out, drops)
+    let gone = format::word::union(masks);
+    withdraw::carry_out(plant, &plant[..0], false, book, gone, out, drops)
 }
 
 // Takes a plant, a book, a mask of moves to return, a book buffer and a drop buffer. Writes the book of a make with the
@@ -125,7 +176,11 @@ pub fn return_moves(
         return refused(refusals::withdraw(plant, book, mask, room, gained.len()));
     }
     let old = rows::mask(book);
-    let length = make::book(plant, old | mask, out);
+    let way = Way {
+        indexed: false,
+        mask: old | mask,
+    };
+    let length = make::book(plant, &plant[..0], way, out);
     if length == 0 {
         return refused(refusals::withdraw(plant, book, mask, room, gained.len()));
     }
@@ -134,6 +189,25 @@ pub fn return_moves(
         number: 0,
         length: length,
         drops: count,
+    }
+}
+
+// Takes a plant and a buffer. Writes the plant's index and returns its length.
+pub fn index_plant(plant: &[u8], out: &mut [u8]) -> Answer
+    ensures { λ r. ⌜ IndexSays (now (plant .entry)) (now (out .entry)) (now (out .exit)) r ⌝ }
+    ensures index_ways { λ _. ⌜ By-index ⌝ }
+    ensures index_against_plain { λ _. ⌜ Indexed ⌝ }
+    ensures index_determined { λ _. ⌜ Determined ⌝ }
+{
+    let room = out.len();
+    if !index::write(plant, out) {
+        return refused(refusals::indexing(plant, room));
+    }
+    let long = 8 + 2 * (format::word::number(plant, 3) as u32);
+    Answer {
+        number: 0,
+        length: long,
+        drops: 0,
     }
 }
 

@@ -9,3 +9,5 @@ pub mod Accepted
 pub mod Unique
 pub mod Faults
 pub mod Asked
+pub mod Order
+pub mod Indexed

@@ -3,8 +3,8 @@
 use mathlib.Core.Path.{_≡_, refl, subst}
 use mathlib.Core.Logic.{inl, inr}
 use mathlib.Core.Bool.{Bool, true, false, not}
-use mathlib.Core.List.{List, [], _∷_}
-use Prim.Native.Nat.{ℕ, _+_, _*_, _≤_, _<_}
+use mathlib.Core.List.{List, [], _∷_, _++_, append-assoc}
+use Prim.Native.Nat.{ℕ, _+_, _*_, _/_, _%_, _≤_, _<_}
 use native.Mathlib.Nat.{suc-mul, mul-le-mul, mul-le-mul-right}
 use native.Mathlib.Omega.{arith}
 use lib.ListN.{length}
@@ -95,6 +95,20 @@ pub bytes-length : (xs : List ℕ) → length (bytesOf xs) ≡ 2 * length xs
 unfolding bytesOf two
 bytes-length [] = refl
 bytes-length (x ∷ xs) = omega (arith, bytes-length xs)
+
+-- a low byte and a high one are the bytes of the number that they come to
+pub two-of : (a b : ℕ) → a < 256 → two (a + 256 * b) ≡ a ∷ (b ∷ [])
+unfolding two
+two-of a b h =
+    let low : (a + 256 * b) % 256 ≡ a = omega arith in
+    let high : (a + 256 * b) / 256 ≡ b = omega arith in
+    rw (low, high)
+
+-- the bytes of one list's numbers, then of another's
+pub bytes-append : (xs ys : List ℕ) → bytesOf (xs ++ ys) ≡ bytesOf xs ++ bytesOf ys
+unfolding bytesOf
+bytes-append [] ys = refl
+bytes-append (x ∷ xs) ys = rw (bytes-append xs ys, append-assoc)
 
 -- a book keeps no more states than it has, and no more are dropped
 pub kept-few : (b : List ℕ) → length (bookKept b) ≤ bookStates b

@@ -10,14 +10,15 @@ use borrow.Author.Tests.{eqb-true}
 use Rattle.statements.specs.Sets.{pick}
 use Rattle.statements.specs.Plants.{Plant, plantOf, plantFault}
 use Rattle.statements.specs.Books.{maskOk, madeBook, masksOf, unionOf, withdrawnList}
-use Rattle.statements.specs.Calls.{makeFault, lentFault, Ask, Call, makes, withdraws, withdrawsList, returns, effectOf}
-use Rattle.statements.specs.Calls.{answerOf, standingAfter, standing, answers, toldOf, numberTold, told, putAfter}
-use Rattle.statements.specs.Calls.{inService}
+use Rattle.statements.specs.Calls.{makeFault, lentFault, Ask, Call, makes, withdraws, withdrawsList, returns, makesBy}
+use Rattle.statements.specs.Calls.{withdrawsBy, effectOf, answerOf, standingAfter, standing, answers, toldOf}
+use Rattle.statements.specs.Calls.{numberTold, told, putAfter, inService}
 use Rattle.statements.specs.Demands.{Allowed, Right, Demand-3}
 use Rattle.sets.proofs.Tests.{decided, and-true}
 use Rattle.decoding.proofs.Masks.{less-ok, or-ok}
 use Rattle.decoding.proofs.Faults.{plant-ok, make-ok, lent-fine, withdraw-ok, make-told, withdraw-told, list-told}
 use Rattle.decoding.proofs.Faults.{return-told}
+use Rattle.decoding.proofs.Indexed.{by-parts, make-by-told, withdraw-by-told}
 use Rattle.demands.proofs.Plants.{given-allowed}
 use Rattle.demands.proofs.Books.{right}
 use Rattle.demands.proofs.Service.{in-service}
@@ -71,6 +72,21 @@ module _ (s : List ℕ) (accepted : plantFault s ≡ 0) where
               let b = madeBook (plantOf s) mask in
               let back-ok = withdraw-ok s b back room drops (return-told s b room drops made-lent back ∙ e) .gone-ok in
               or-ok (plantOf s .moves) mask back ∙ and-true ok back-ok;
+        }
+    lawful (makesBy index new) =
+        record {
+          answers-told = λ room drops. make-by-told s index new room drops accepted;
+          writes-afresh = refl;
+          puts-moves = λ room drops e.
+              let plain = by-parts s index _ (make-by-told s index new room drops accepted ∙ e) .2 in
+              make-ok s new room plain .mask-ok;
+        }
+    lawful (withdrawsBy index gone) =
+        record {
+          answers-told = λ room drops.
+              withdraw-by-told s (madeBook (plantOf s) mask) index gone room drops accepted made-lent;
+          writes-afresh = withdrawn-afresh (plantOf s) (plant-ok s accepted) mask ok gone;
+          puts-moves = λ room drops e. less-ok (plantOf s .moves) mask gone ok;
         }
 
     pub answer-told : (c : Call) → answerOf s (madeBook (plantOf s) mask) c ≡ numberTold (plantOf s) c

@@ -8,7 +8,7 @@ use borrow.Author.Tests.{ne-eqb}
 use Rattle.statements.specs.Sets.{bit, isIn}
 use Rattle.statements.specs.Plants.{Plant}
 use Rattle.statements.specs.Books.{lessMask, masksOf, unionOf}
-use Rattle.statements.specs.Calls.{Call, makes, withdraws, withdrawsList, returns, toldOf, numberTold, putAfter, inService}
+use Rattle.statements.specs.Calls.{Call, toldOf, numberTold, putAfter, inService}
 use Rattle.statements.specs.Demands.{In-service}
 use Rattle.sets.proofs.Tests.{decided, not-both, and-true}
 use Rattle.sets.proofs.Bits.{all-bits}
@@ -68,4 +68,7 @@ in-service =
           (λ h. (h .0, none-names (masksOf masks) u .0 (h .1)), λ h. (h .0, none-names (masksOf masks) u .1 (h .1))));
       returned = λ p mask back room drops calls e u.
           rw (put-accepted p mask calls _ e) (or-names (inService p mask calls) back u);
+      made-by = λ p mask new room drops index calls e u. rw (put-accepted p mask calls _ e) (λ h. h, λ h. h);
+      withdrawn-by = λ p mask gone room drops index calls e u.
+          rw (put-accepted p mask calls _ e) (less-names (inService p mask calls) gone u);
     }

@@ -1,6 +1,6 @@
 -- A plant's arrows as they are stored: how those left from one on are read from the bytes, and what the next arrow adds
 -- to the ends of a move in a state. Assumes nothing.
-use mathlib.Core.Path.{_≡_, refl, ap}
+use mathlib.Core.Path.{_≡_, refl}
 use mathlib.Core.Bool.{Bool, true, false, _&&_}
 use mathlib.Core.List.{List, [], _∷_}
 use Prim.Native.Nat.{ℕ, zero, suc, _+_, _*_, _≤_, _<_}
@@ -13,20 +13,10 @@ use lib.Seq.{drop-drop}
 use borrow.Author.Tests.{eq-eqb, ne-eqb}
 use Rattle.statements.specs.Sets.{consIf}
 use Rattle.statements.specs.Plants.{word, Arrow, arrowsFrom, plantOf, endsIn}
+use Rattle.decoding.proofs.Order.{arrows-length}
 use Rattle.format.specs.declared.arrows.Arrow.{Arrow as ReadArrow}
 use Rattle.format.specs.Arrows.{arrowIn, arrowsLeft}
 use Rattle.format.proofs.Parts.{arrowAt, arrows-more}
-
--- as many arrows as asked for
-length-from : (n : ℕ) (s : List ℕ) → length (arrowsFrom n s) ≡ n
-unfolding arrowsFrom
-length-from zero s = refl
-length-from (suc n) s = ap suc (length-from n (drop 6 s))
-
--- a plant has as many as its header says
-pub arrows-length : (s : List ℕ) → length (plantOf s .arrows) ≡ word 3 s
-unfolding plantOf
-arrows-length s = length-from (word 3 s) (drop (16 + 2 * word 0 s) s)
 
 -- an arrow that was read
 abbrev pub asArrow : ReadArrow → Arrow

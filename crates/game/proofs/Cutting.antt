@@ -162,6 +162,24 @@ module _ {list : List ℕ} {n : ℕ} {old new : List ℕ} {x k count : ℕ} (r :
       let written = rw e at (r .written) in
       (rw written (over-back (others n list) old count number), number)
 
+-- the next number of a list that is sieved is as it was, and one of the list
+module _ {f : ℕ → Bool} {count : ℕ} {old new : List ℕ} {kept k : ℕ} (r : Sieved f count old new kept k)
+    (more : k < count) where
+  sieved-same : getD new k 0 ≡ getD old k 0
+  sieved-same =
+      let few = length-take-le k old (omega (arith, r .room)) in
+      rw (r .list) (over-at (filter f (take k old)) old k (omega (arith, few, filter-length f (take k old))))
+
+  pub sieved-in : isIn (getD new k 0) (take count old) ≡ true
+  sieved-in = rw sieved-same (take-in count k old more (r .room))
+
+-- a sieved list's front
+pub sieved-end : {f : ℕ → Bool} {count : ℕ} {old new : List ℕ} {kept k : ℕ} → Sieved f count old new kept k → count ≤ k
+    → (kept ≡ length (filter f (take count old))) × (take kept new ≡ filter f (take count old))
+sieved-end {f} {count} {old} {kept = kept} r h =
+    let end = sieve-end r (omega (arith, r .within)) in
+    (end .0, rw (end .1) (over-back (filter f (take count old)) old kept (end .0)))
+
 -- a list is cut down to the nodes that pass a test, and the others are listed
 pub record Cutting (f : ℕ → Bool) (count : ℕ) (old gone₀ new gone : List ℕ) (kept k : ℕ) : Type 0 where
   pub sieved : Sieved f count old new kept k
@@ -195,32 +213,26 @@ module _ {f : ℕ → Bool} {count : ℕ} {old gone₀ new gone : List ℕ} {kep
       × (take (count - kept) gone ≡ filter (λ x. not (f x)) (take count old)))
   cut-end h =
       let e : k ≡ count = omega (arith, r .sieved .within) in
-      let end = sieve-end (r .sieved) e in
+      let end = sieved-end (r .sieved) h in
       let number = rw e at cut-number in
       let listed = rw e at (r .listed) in (
         end .0,
         (
-          rw (end .1) (over-back (filter f (take count old)) old kept (end .0)),
+          end .1,
           rw listed (over-back (filter (λ x. not (f x)) (take count old)) gone₀ (count - kept) number),
         ),
       )
 
   module _ (more : k < count) where
-    -- the next node is as it was, and one of the list
-    next-same : getD new k 0 ≡ getD old k 0
-    next-same =
-        let few = length-take-le k old (omega (arith, r .sieved .room)) in
-        rw (r .sieved .list)
-        (over-at (filter f (take k old)) old k (omega (arith, few, filter-length f (take k old))))
-
+    -- the next node is one of the list
     pub cut-in : isIn (getD new k 0) (take count old) ≡ true
-    cut-in = rw next-same (take-in count k old more (r .sieved .room))
+    cut-in = sieved-in (r .sieved) more
 
     -- one node more
     next-others : filter (λ x. not (f x)) (take (k + 1) old)
         ≡ filter (λ x. not (f x)) (take k old) ++ consIf (not (f (getD new k 0))) (getD new k 0) []
     next-others =
-        rw (next-same, add-one k, take-suc old k 0 (omega (arith, r .sieved .room)))
+        rw (sieved-same (r .sieved) more, add-one k, take-suc old k 0 (omega (arith, r .sieved .room)))
         (filter-snoc (λ x. not (f x)) (take k old) (getD old k 0))
 
     -- one that passes

@@ -6,7 +6,7 @@ use mathlib.Core.List.{List}
 use mathlib.Core.Logic.{⊎-elim}
 use Prim.Native.Nat.{ℕ, suc, _-_, _<_, _≤_}
 use native.Mathlib.Omega.{arith}
-use borrow.Author.Tests.{eq-eqb, ne-eqb, lt-ltb}
+use borrow.Author.Tests.{eq-eqb, ne-eqb, lt-ltb, le-ltb}
 use lib.Dec.{eqb, ltb}
 use lib.ListN.{length, getD, set, length-set}
 use lib.Seq.{getD-set-same, getD-set-other}
@@ -196,6 +196,19 @@ module _ (gs starts rev : List ℕ) where
             (λ q.
             rw (getD-set-other member f y 65535 0 q, getD-set-other live f y (getD live f 0 - 1) 0 q)
             (c .member-is y l))
+            (same-number y f))
+
+        -- the same where its node has no mark
+        pub died-unmarked : getD live f 0 - 1 ≡ 0 → 0 < getD member f 0
+            → Marks gs starts rev ok′ inside member (set live f (getD live f 0 - 1)) (set dead g 1)
+        died-unmarked z out =
+            died member (c .member-long)
+            (λ y l.
+            ⊎-elim
+            (λ q.
+            let high : ltb (getD member y 0) 1 ≡ false = rw q (le-ltb (getD member f 0) 1 out) in
+            rw (high, live-at y q, z, and-off (inside y)))
+            (λ q. rw (getD-set-other live f y (getD live f 0 - 1) 0 q) (c .member-is y l))
             (same-number y f))
 
         -- its node has another

@@ -3,7 +3,8 @@ use mathlib.Core.Path.{refl}
 use Rattle.statements.specs.Sets.{numbers, every, first, joined, iterate, isIn, filter}
 use Rattle.game.specs.Walked.{nodes, nodeAt, leadsInto, canEnter, grownBy, targets, level, waitOf, walkedWaits}
 use Rattle.game.specs.Game.{grownIn, aims, reachedIn, attracted, attractedAll, heldAfter, stepsTo, stepsOf}
-use Rattle.game.specs.Marked.{Marked, Marked-games}
+use Rattle.game.specs.Draining.{movesOn, drained}
+use Rattle.game.specs.Marked.{Marked, Marked-games, Marked-drained}
 
 pub marked : Marked
 unfolding numbers every first joined iterate isIn filter
@@ -37,3 +38,7 @@ marked-games =
       without-goal = refl;
       mark = refl;
     }
+
+pub marked-drained : Marked-drained
+unfolding numbers every first joined iterate isIn filter nodes nodeAt leadsInto canEnter movesOn drained
+marked-drained = record { one-step = refl; nothing = refl; over-there = refl }

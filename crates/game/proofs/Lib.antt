@@ -20,11 +20,17 @@ pub mod Parts
 pub mod Begun
 pub mod Attractors
 pub mod Rounds
+pub mod Drained
 pub mod Playing
 pub mod Standing
 pub mod Reaching
 pub mod Alike
 pub mod Seeking
+pub mod Pushing
+pub mod Killing
+pub mod Emptying
+pub mod Emptied
+pub mod Shrinking
 pub mod Plays
 pub mod Playable
 pub mod Examples

@@ -35,7 +35,7 @@ unfolding placesIn
 places-twice size = omega arith
 
 module _ (graph : List ℕ) {n groups positions : ℕ} (fits : Fits (length graph) n groups positions) where
-  groups-end : groups ≤ length graph
+  pub groups-end : groups ≤ length graph
   groups-end = omega (arith, fits .few-groups, places-twice (length graph))
 
   pub rev-end : placesIn (length graph) + positions ≤ length graph

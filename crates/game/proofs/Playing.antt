@@ -14,10 +14,11 @@ use Rattle.sets.proofs.Tests.{same-number}
 use Rattle.sets.proofs.Members.{Sifted, filter-length}
 use Rattle.sets.proofs.Iterate.{sifted-few}
 use Rattle.sets.proofs.Pieces.{points-take, pieces-over}
-use Rattle.game.specs.Game.{Can, aims, attractedAll, heldAfter, stepsTo, stepsOf}
+use Rattle.game.specs.Game.{Can, aims, heldAfter, stepsTo, stepsOf}
 use Rattle.game.specs.Playing.{Reached, Older, Round}
 use Rattle.game.proofs.Attractors.{Sub}
-use Rattle.game.proofs.Rounds.{all-sifted, round-held, round-still, steps-same}
+use Rattle.game.proofs.Rounds.{steps-same}
+use Rattle.game.proofs.Drained.{Rises, Reduced, reduced-still}
 
 -- no more targets than nodes
 aims-few : (can : Can) (done goal : ℕ → Bool) (all : List ℕ) → length (aims can done goal all) ≤ length all
@@ -45,18 +46,16 @@ module _ (can : Can) (done : ℕ → Bool) (goal : ℕ → ℕ → Bool) (n goal
     module _ (more : (ys zs : List ℕ) (x : ℕ) → Sub ys zs → can ys x ≡ true → can zs x ≡ true)
         (nothing : (x : ℕ) → can [] x ≡ false) where
       same-reach : getD last at 0 ≡ length (aims can done (goal at) now)
-          → Older can done goal n goals now at last waits → Reached can done goal n now at last waits
+          → Older can done goal n now at last waits → Reached can done goal n now at last waits
       same-reach e (inl m) =
           absurd (omega (arith, aims-few can done (goal at) now, sifted-few n now (r .sifted), e, m))
       same-reach e (inr o) =
           let old = o .0 in
-          let is : now ≡ attractedAll goals can done goal old = o .1 .1 .0 in
-          let aims-as-many = sym (ap (λ (ys : List ℕ). length (aims can done (goal at) ys)) is) ∙ (sym e ∙ o .1 .1 .1 .targets) in
+          let as-many = sym e ∙ o .1 .1 .1 .targets in
           record {
             column = λ x h.
                 o .1 .1 .1 .column x h
-                ∙ (sym (steps-same can done goal n goals old (o .1 .0) more nothing at aims-as-many x)
-                ∙ ap (λ (ys : List ℕ). stepsTo can done (goal at) ys x) (sym is));
+                ∙ sym (steps-same can done goal n old now (o .1 .0) (r .sifted) (o .1 .1 .0) more nothing at as-many x);
             targets = e;
           }
 
@@ -123,23 +122,19 @@ module _ (can : Can) (done : ℕ → Bool) (goal : ℕ → ℕ → Bool) (n goal
 
   -- all goals are reached: what the round leaves is the set of the next
   module _ (now last waits : List ℕ) (r : InRound now goals last waits) (left : List ℕ)
-      (still : left ≡ attractedAll goals can done goal now) where
+      (reduced : Reduced can done goal n goals now left) where
     pub round-next : InRound left 0 last waits
     round-next =
         record {
-          sifted = subst (Sifted (numbers n 0)) (sym still) (all-sifted can done goal goals (numbers n 0) now (r .sifted));
-          same =
-              ap (heldAfter n goals can done goal) still
-              ∙ (round-held can done goal n goals now (r .sifted) ∙ r .same);
+          sifted = reduced .sifted;
+          same = reduced .held ∙ r .same;
           reached = λ i l. absurd (omega arith);
-          older = λ i l h. inr (now, (r .sifted, (still, r .reached i h)));
+          older = λ i l h. inr (now, (r .sifted, (reduced .leaves, r .reached i h)));
         }
 
     -- or it leaves as many nodes, and these are left in the end
-    pub round-end : length now ≤ length left → heldAfter n goals can done goal start ≡ now
-    round-end l =
-        sym (r .same)
-        ∙ round-still can done goal n goals now (r .sifted) (omega (arith, ap length still))
+    pub round-end : Rises can → length now ≤ length left → heldAfter n goals can done goal start ≡ now
+    round-end more l = sym (r .same) ∙ reduced-still can done goal n goals more now (r .sifted) left reduced l
 
 -- the columns of all goals, one after the other
 pub columns-over : (can : Can) (done : ℕ → Bool) (goal : ℕ → ℕ → Bool) (n goals : ℕ) (all old new : List ℕ)

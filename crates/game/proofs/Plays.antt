@@ -1,14 +1,16 @@
 -- The rounds of a packed game: what a round strikes out, and what the last one leaves. Assumes nothing.
 use mathlib.Core.Path.{_≡_, refl, sym, ap, _∙_, subst}
-use mathlib.Core.Bool.{Bool, not}
+use mathlib.Core.Logic.{inl, inr, ⊎-elim}
+use mathlib.Core.Bool.{Bool, true, false, not}
 use mathlib.Core.List.{List}
 use Prim.Native.Nat.{ℕ, _+_, _-_, _*_, _≤_, _<_}
 use native.Mathlib.Omega.{arith}
+use borrow.Author.Tests.{ltb-true}
 use lib.ListN.{length, getD, take, replicate, length-replicate}
 use lib.Seq.{length-take-le, getD-drop}
-use Rattle.statements.specs.Sets.{numbers, filter, over}
-use Rattle.sets.proofs.Members.{Sifted, filter-length}
-use Rattle.sets.proofs.Iterate.{sifted-few}
+use Rattle.statements.specs.Sets.{numbers, pick, isIn, filter, over}
+use Rattle.sets.proofs.Members.{Sifted, filter-length, filter-in}
+use Rattle.sets.proofs.Iterate.{sifted-few, sifted-below}
 use Rattle.sets.proofs.Over.{over-length, over-back}
 use Rattle.arrays.specs.Lists.{fitting}
 use Rattle.arrays.proofs.Guards.{fitting-yes}
@@ -16,11 +18,13 @@ use Rattle.game.specs.Game.{Can, attractedAll}
 use Rattle.game.specs.Packed.{groupsIn, revIn, startsIn, labelsIn, goalOf, overAt, canIn, heldIn, waitsIn}
 use Rattle.game.specs.Marks.{Marked, without}
 use Rattle.game.specs.Cuts.{waitsAll}
+use Rattle.game.specs.Draining.{drained, GoesOn}
 use Rattle.game.specs.Playing.{Ready, Fresh, RoundIn, Standing, Rest, lastEight}
 use Rattle.game.proofs.Parts.{groups-length, starts-nodes}
-use Rattle.game.proofs.Rounds.{cut-round}
+use Rattle.game.proofs.Rounds.{all-holds, cut-round}
+use Rattle.game.proofs.Drained.{Rises, attracted-moves, Reduced, round-reduced, drained-reduced}
 use Rattle.game.proofs.Playing.{round-begin, round-next, round-end, columns-over}
-use Rattle.game.proofs.Standing.{member-can, without-failing}
+use Rattle.game.proofs.Standing.{can-more, live-can, member-can, without-failing}
 
 -- a set at the front of a list has no more nodes than there are
 pub front-few : (n kept : ℕ) (list : List ℕ) → kept ≤ length list → Sifted (numbers n 0) (take kept list) → kept ≤ n
@@ -129,33 +133,76 @@ module _ (graph : List ℕ) (nodes groups positions goals : ℕ) where
           live-long = ll;
         }
 
-    -- all goals are reached, and the nodes with a wait for each are left
-    module _ (start set last waits : List ℕ) (r : RoundIn graph nodes groups positions goals start set goals last waits)
-        (left : List ℕ) (cut : left ≡ filter (waitsAll waits nodes goals) set) where
-      left-is : left ≡ attractedAll goals can done goal set
-      left-is =
-          cut
-          ∙ cut-round can done goal nodes goals set (r .sifted) (ready .fits .few-nodes) waits
+    -- all goals are reached
+    module _ (start set last waits : List ℕ)
+        (r : RoundIn graph nodes groups positions goals start set goals last waits) where
+      cut-is : filter (waitsAll waits nodes goals) set ≡ attractedAll goals can done goal set
+      cut-is =
+          cut-round can done goal nodes goals set (r .sifted) (ready .fits .few-nodes) waits
           (λ i x hi hx. r .reached i hi .column x hx)
 
-      -- the next round is about them
-      pub next-round : RoundIn graph nodes groups positions goals start left 0 last waits
-      next-round =
-          round-next can done goal nodes goals start (ready .fits .few-nodes) set last waits r left left-is
+      rises : Rises can
+      unfolding canIn
+      rises = can-more (groupsIn graph groups) (startsIn graph nodes) (revIn graph positions)
 
-      -- or they are as many as before
-      module _ (still : length set ≤ length left) where
-        pub last-held : heldIn graph nodes groups positions goals start ≡ set
-        unfolding heldIn
-        last-held =
-            round-end can done goal nodes goals start (ready .fits .few-nodes) set last waits r left left-is still
+      -- a node with a wait for each goes on within the set
+      pub waits-on : (member live dead : List ℕ) → MarkedIn set member live dead
+          → GoesOn (waitsAll waits nodes goals) (labelsIn graph nodes) set live
+      unfolding canIn
+      waits-on member live dead m x a w =
+          let forced : isIn x (attractedAll goals can done goal set) ≡ true =
+          rw (← cut-is) (filter-in (waitsAll waits nodes goals) set x a w) in
+          let low = sifted-below nodes set (r .sifted) x a in
+          let gl = groups-length graph (ready .fits) in
+          ⊎-elim
+          (λ d. inl d)
+          (λ h.
+          inr (ltb-true 0 (getD live x 0)
+          (live-can (groupsIn graph groups) (startsIn graph nodes) (revIn graph positions)
+          (λ g l. ready .full g (omega (arith, gl))) set member live dead m x
+          (omega (arith, low, starts-nodes graph (ready .fits)))
+          ∙ h)))
+          (attracted-moves can done rises (goal 0) set x
+          (all-holds can done goal goals set x forced .1 0 (ready .some-goal)))
 
-        -- and the waits are those of the nodes left in the end
-        pub last-waits : (old : List ℕ) → goals * nodes ≤ length old → Rest (goals * nodes) old waits
-            → waits
-            ≡ over (waitsIn graph nodes groups positions goals (heldIn graph nodes groups positions goals start)) old
-        unfolding waitsIn
-        last-waits old room rest =
-            subst (λ (all : List ℕ). waits ≡ over (waitsIn graph nodes groups positions goals all) old) (sym last-held)
-            (columns-over can done goal nodes goals set old waits (λ i x hi hx. r .reached i hi .column x hx)
-            (omega (arith, rest .long)) (rest .stays))
+      -- the nodes with a wait for each are left, or those of them that go on
+      module _ (eager : Bool) (left : List ℕ)
+          (cut : left
+          ≡ pick eager (drained can done (filter (waitsAll waits nodes goals) set))
+          (filter (waitsAll waits nodes goals) set)) where
+        reduced : Reduced can done goal nodes goals set left
+        reduced =
+            subst (Reduced can done goal nodes goals set)
+            (sym (cut ∙ ap (λ (ys : List ℕ). pick eager (drained can done ys) ys) cut-is)) (both eager)
+          where
+            both : (b : Bool)
+                → Reduced can done goal nodes goals set
+                (pick b (drained can done (attractedAll goals can done goal set))
+                (attractedAll goals can done goal set))
+            both true = drained-reduced can done goal nodes goals rises set (r .sifted) (ready .some-goal)
+            both false = round-reduced can done goal nodes goals rises set (r .sifted)
+
+        -- the next round is about them
+        pub next-round : RoundIn graph nodes groups positions goals start left 0 last waits
+        next-round =
+            round-next can done goal nodes goals start (ready .fits .few-nodes) set last waits r left reduced
+
+        -- or they are as many as before
+        module _ (still : length set ≤ length left) where
+          pub last-held : heldIn graph nodes groups positions goals start ≡ set
+          unfolding heldIn
+          last-held =
+              round-end can done goal nodes goals start (ready .fits .few-nodes) set last waits r left reduced rises
+              still
+
+          -- and the waits are those of the nodes left in the end
+          pub last-waits : (old : List ℕ) → goals * nodes ≤ length old → Rest (goals * nodes) old waits
+              → waits
+              ≡ over (waitsIn graph nodes groups positions goals (heldIn graph nodes groups positions goals start)) old
+          unfolding waitsIn
+          last-waits old room rest =
+              subst
+              (λ (all : List ℕ). waits ≡ over (waitsIn graph nodes groups positions goals all) old)
+              (sym last-held)
+              (columns-over can done goal nodes goals set old waits (λ i x hi hx. r .reached i hi .column x hx)
+              (omega (arith, rest .long)) (rest .stays))

@@ -18,6 +18,7 @@ use Rattle.sets.proofs.Iterate.{sifted-as-long, sifted-longer, sifted-few, sift
 use Rattle.game.specs.Walked.{orMark}
 use Rattle.game.specs.Game.{Can, grownIn, aims, reachedIn, attracted, attractedAll, heldAfter, stepsTo}
 use Rattle.game.specs.Cuts.{waitsAll}
+use Rattle.game.specs.Playing.{Leaves}
 use Rattle.game.proofs.Attractors.{Sub, reached-within, reached-suc}
 use Rattle.game.proofs.Attractors.{reached-zero, attracted-closed, steps-first}
 
@@ -119,21 +120,29 @@ module _ (can : Can) (done : ℕ → Bool) (goal : ℕ → ℕ → Bool) where
         filter-in (λ y. every goals 0 (test y)) all x (h .0)
         (every-all goals 0 (test x) (λ i low high. has-wait i x (omega arith) hx ∙ h .1 i (omega arith))))
 
+  -- what a round leaves of a set
+  pub round-leaves : (goals : ℕ) (old : List ℕ)
+      → ((ys zs : List ℕ) (x : ℕ) → Sub ys zs → can ys x ≡ true → can zs x ≡ true)
+      → Leaves can old (attractedAll goals can done goal old)
+  round-leaves goals old more =
+      record {
+        within = λ x m. all-holds goals old x m .0;
+        closed = λ ys x s a h.
+            all-in goals old x a
+            (λ j l. attracted-closed can old done (goal j) x a
+            (more ys (attracted can done (goal j) old) x (λ y m. all-holds goals old y (s y m) .1 j l) h));
+      }
+
   -- a goal whose targets are as many after a round as before is reached as before
-  module _ (n goals : ℕ) (old : List ℕ) (set : Sifted (numbers n 0) old)
+  module _ (n : ℕ) (old new : List ℕ) (set : Sifted (numbers n 0) old) (new-set : Sifted (numbers n 0) new)
+      (left : Leaves can old new)
       (more : (ys zs : List ℕ) (x : ℕ) → Sub ys zs → can ys x ≡ true → can zs x ≡ true)
       (nothing : (x : ℕ) → can [] x ≡ false) (i : ℕ) where
-    abbrev new : List ℕ
-    new = attractedAll goals can done goal old
-
     abbrev same-aims : Type 0
     same-aims = length (aims can done (goal i) new) ≡ length (aims can done (goal i) old)
 
-    new-set : Sifted (numbers n 0) new
-    new-set = all-sifted goals (numbers n 0) old set
-
-    new-old : Sub new old
-    new-old x m = all-holds goals old x m .0
+    abbrev new-old : Sub new old
+    new-old = left .within
 
     aims-same : same-aims → aims can done (goal i) new ≡ aims can done (goal i) old
     unfolding aims
@@ -150,13 +159,6 @@ module _ (can : Can) (done : ℕ → Bool) (goal : ℕ → ℕ → Bool) where
         (and-true (and-left (goal i x) (can new x) b) (more new old x new-old (and-right (goal i x) (can new x) b))))
         (or-cases (done x) (goal i x && can new x) (r .1)))) e
 
-    -- what can go on into the nodes left is left
-    stays-left : (ys : List ℕ) (x : ℕ) → Sub ys new → isIn x old ≡ true → can ys x ≡ true → isIn x new ≡ true
-    stays-left ys x s a h =
-        all-in goals old x a
-        (λ j l. attracted-closed can old done (goal j) x a
-        (more ys (attracted can done (goal j) old) x (λ y m. all-holds goals old y (s y m) .1 j l) h))
-
     grown-left : (ys : List ℕ) → Sub ys new → grownIn can new ys ≡ grownIn can old ys
     unfolding grownIn
     grown-left ys s =
@@ -167,7 +169,7 @@ module _ (can : Can) (done : ℕ → Bool) (goal : ℕ → ℕ → Bool) where
         (λ x m.
         let r = filter-holds test old x m in
         filter-in test new x
-        (⊎-elim (λ h. s x h) (λ h. stays-left ys x s (r .0) h) (or-cases (isIn x ys) (can ys x) (r .1))) (r .1))
+        (⊎-elim (λ h. s x h) (λ h. left .closed ys x s (r .0) h) (or-cases (isIn x ys) (can ys x) (r .1))) (r .1))
 
     reached-same : same-aims → (k : ℕ) → reachedIn can done (goal i) new k ≡ reachedIn can done (goal i) old k
     reached-same e zero =

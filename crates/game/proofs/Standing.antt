@@ -84,7 +84,7 @@ module _ (gs starts rev : List ℕ) where
         (sym (full g h)))
 
     -- a node has one exactly where it can go on within the set
-    live-can : (x : ℕ) → x < nodes starts → ltb 0 (getD live x 0) ≡ canEnter gs starts rev set x
+    pub live-can : (x : ℕ) → x < nodes starts → ltb 0 (getD live x 0) ≡ canEnter gs starts rev set x
     unfolding canEnter
     live-can x h =
         ap (ltb 0) (m .live-is x h)

@@ -29,6 +29,26 @@ in-without y gone xs =
     (λ t. let r = filter-holds f xs y t in and-true (r .0) (r .1))
     (λ t. filter-in f xs y (and-left (isIn y xs) (f y) t) (and-right (isIn y xs) (f y) t))
 
+pub without-holds : (y : ℕ) (gone xs : List ℕ) → isIn y (without gone xs) ≡ true
+    → (isIn y xs ≡ true) × (isIn y gone ≡ false)
+without-holds y gone xs m =
+    let r = sym (in-without y gone xs) ∙ m in
+    (and-left (isIn y xs) _ r, off (isIn y gone) (and-right (isIn y xs) _ r))
+  where
+    off : (b : Bool) → not b ≡ true → b ≡ false
+    off true h = sym h
+    off false h = refl
+
+pub without-in : (y : ℕ) (gone xs : List ℕ) → isIn y xs ≡ true → isIn y gone ≡ false
+    → isIn y (without gone xs) ≡ true
+without-in y gone xs m out = in-without y gone xs ∙ and-true m (ap not out)
+
+-- out of one or of another, or of both at once
+pub apart-both : (a b d : Bool) → ((a && not b) && not d) ≡ (a && not (b || d))
+apart-both true true d = refl
+apart-both true false d = refl
+apart-both false b d = refl
+
 -- what is left of a set without node x, as a test
 unfoldable pub apart : ℕ → List ℕ → ℕ → Bool
 apart x xs y = isIn y xs && not (eqb y x)
@@ -36,6 +56,31 @@ apart x xs y = isIn y xs && not (eqb y x)
 -- the positions of a set's nodes but those of node x before j
 unfoldable pub struck : List ℕ → ℕ → List ℕ → ℕ → ℕ → Bool
 struck starts x xs j i = endsAt starts xs i && not (leb (getD starts x 0) i && ltb i j)
+
+-- position j fails once it is passed, and the others are as they were
+pub struck-now : (starts : List ℕ) (x : ℕ) (xs : List ℕ) (j : ℕ) → getD starts x 0 ≤ j
+    → struck starts x xs (j + 1) j ≡ false
+unfolding struck
+struck-now starts x xs j h =
+    rw (le-leb (getD starts x 0) j h, lt-ltb j (j + 1) (omega arith)) (and-off (endsAt starts xs j))
+
+pub struck-else : (starts : List ℕ) (x : ℕ) (xs : List ℕ) (j i : ℕ) → (i ≡ j → ⊥)
+    → struck starts x xs j i ≡ struck starts x xs (j + 1) i
+unfolding struck
+struck-else starts x xs j i d =
+    ⊎-elim
+    (λ l. rw (lt-ltb i j l, lt-ltb i (j + 1) (omega arith)))
+    (λ l. rw (le-ltb i j l, le-ltb i (j + 1) (omega (arith, d))))
+    (lt-or-le i j)
+
+-- where no position is passed each is as it was
+pub struck-none : (starts : List ℕ) (x : ℕ) (xs : List ℕ) (i : ℕ)
+    → struck starts x xs (getD starts x 0) i ≡ endsAt starts xs i
+unfolding struck
+struck-none starts x xs i = rw (none (getD starts x 0) i) (and-on (endsAt starts xs i))
+  where
+    none : (a i : ℕ) → (leb a i && ltb i a) ≡ false
+    none a i = ⊎-elim (λ h. rw (lt-leb a i h)) (λ h. rw (le-ltb i a h) (and-off (leb a i))) (lt-or-le i a)
 
 -- the positions of node x before j are passed, for whichever set the marks were
 pub record Striking (gs starts rev : List ℕ) (x : ℕ) (member₀ live₀ dead₀ member live dead : List ℕ) (j : ℕ)
@@ -59,7 +104,6 @@ module _ {gs starts rev : List ℕ} (index : Index rev starts gs) (x : ℕ) (xn 
   -- no position is passed
   pub strike-start : {member live dead : List ℕ}
       → Striking gs starts rev x member live dead member live dead (getD starts x 0)
-  unfolding struck
   strike-start {member} {live} {dead} =
       record {
         from = omega arith;
@@ -69,12 +113,8 @@ module _ {gs starts rev : List ℕ} (index : Index rev starts gs) (x : ℕ) (xn 
         dead-size = refl;
         marks = λ xs c.
             other-tests gs starts rev (endsAt starts xs) (struck starts x xs (getD starts x 0)) (apart x xs)
-            (apart x xs) member live dead
-            (λ i l. rw (none (getD starts x 0) i) (sym (and-on (endsAt starts xs i)))) (λ y. refl) c;
+            (apart x xs) member live dead (λ i l. sym (struck-none starts x xs i)) (λ y. refl) c;
       }
-    where
-      none : (a i : ℕ) → (leb a i && ltb i a) ≡ false
-      none a i = ⊎-elim (λ h. rw (lt-leb a i h)) (λ h. rw (le-ltb i a h) (and-off (leb a i))) (lt-or-le i a)
 
   module _ {member₀ live₀ dead₀ member live dead : List ℕ} {j : ℕ}
       (c : Striking gs starts rev x member₀ live₀ dead₀ member live dead j) where
@@ -111,17 +151,10 @@ module _ {gs starts rev : List ℕ} (index : Index rev starts gs) (x : ℕ) (xn 
 
       -- it fails from now on, and the others are as they were
       now-no : (xs : List ℕ) → struck starts x xs (j + 1) j ≡ false
-      unfolding struck
-      now-no xs =
-          rw (le-leb (getD starts x 0) j (c .from), lt-ltb j (j + 1) (omega arith)) (and-off (endsAt starts xs j))
+      now-no xs = struck-now starts x xs j (c .from)
 
       others-on : (xs : List ℕ) (i : ℕ) → (i ≡ j → ⊥) → struck starts x xs j i ≡ struck starts x xs (j + 1) i
-      unfolding struck
-      others-on xs i d =
-          ⊎-elim
-          (λ l. rw (lt-ltb i j l, lt-ltb i (j + 1) (omega arith)))
-          (λ l. rw (le-ltb i j l, le-ltb i (j + 1) (omega (arith, d))))
-          (lt-or-le i j)
+      others-on xs i d = struck-else starts x xs j i d
 
       -- its group is dead already
       pub strike-dead : (getD dead g 0 ≡ 0 → ⊥)
@@ -227,11 +260,6 @@ module _ (gs starts rev gone member₀ live₀ dead₀ : List ℕ) where
               (step (without (take k gone) xs) (c .marked xs m));
         }
       where
-        apart-both : (a b d : Bool) → ((a && not b) && not d) ≡ (a && not (b || d))
-        apart-both true true d = refl
-        apart-both true false d = refl
-        apart-both false b d = refl
-
         both : (xs : List ℕ) (y : ℕ)
             → isIn y (without (getD gone k 0 ∷ []) (without (take k gone) xs)) ≡ isIn y (without (take (k + 1) gone) xs)
         both xs y =

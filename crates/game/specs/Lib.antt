@@ -6,4 +6,5 @@ pub mod Game
 pub mod Packed
 pub mod Marks
 pub mod Cuts
+pub mod Draining
 pub mod Playing

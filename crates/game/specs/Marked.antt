@@ -6,6 +6,7 @@ use Prim.Native.Nat.{ℕ}
 use lib.Dec.{eqb}
 use Rattle.game.specs.Walked.{nodeAt, canEnter, walkedWaits}
 use Rattle.game.specs.Game.{Can, heldAfter, stepsOf}
+use Rattle.game.specs.Draining.{movesOn, drained}
 
 abbrev M : ℕ
 M = 65535
@@ -67,3 +68,14 @@ pub record Marked-games : Type 0 where
   pub without-goal : heldAfter 2 1 onward nowhere second (0 ∷ []) ≡ []
   -- a node that is not left has the mark
   pub mark : stepsOf 2 1 onward nowhere second (1 ∷ []) ≡ two M 0
+
+-- three nodes: node 0 leads to node 1, which leads to node 2, which leads nowhere
+abbrev falling : Can
+falling = canEnter (two 0 1) (four 0 0 1 2) (two 0 1)
+
+pub record Marked-drained : Type 0 where
+  -- they fall one by one, and nothing is left
+  pub one-step : movesOn falling nowhere (three 0 1 2) ≡ two 0 1
+  pub nothing : drained falling nowhere (three 0 1 2) ≡ []
+  -- but where a run is over at the end all are left
+  pub over-there : drained falling (λ x. eqb x 2) (three 0 1 2) ≡ three 0 1 2

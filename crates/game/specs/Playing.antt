@@ -10,7 +10,7 @@ use Rattle.statements.specs.Sets.{numbers, isIn, over, pick}
 use Rattle.sets.proofs.Members.{Sifted}
 use Rattle.sort.specs.Steps.{Holds, countOf}
 use Rattle.game.specs.Steps.{Index}
-use Rattle.game.specs.Game.{Can, aims, attractedAll, heldAfter, stepsTo}
+use Rattle.game.specs.Game.{Can, aims, heldAfter, stepsTo}
 use Rattle.game.specs.Packed.{placesIn, groupsIn, revIn, startsIn, labelsIn, goalOf, overAt, canIn, roomyFor}
 use Rattle.game.specs.Packed.{soundIn, playable, heldIn, waitsIn}
 
@@ -73,12 +73,18 @@ pub record Reached (can : Can) (done : ℕ → Bool) (goal : ℕ → ℕ → Boo
   pub column : (x : ℕ) → x < n → getD waits (i * n + x) 0 ≡ stepsTo can done (goal i) set x
   pub targets : getD last i 0 ≡ length (aims can done (goal i) set)
 
+-- what a round leaves of a set: a part of it, with each node of the set that can go on into that part
+pub record Leaves (can : Can) (old new : List ℕ) : Type 0 where
+  pub within : (x : ℕ) → isIn x new ≡ true → isIn x old ≡ true
+  pub closed : (ys : List ℕ) (x : ℕ) → ((y : ℕ) → isIn y ys ≡ true → isIn y new ≡ true) → isIn x old ≡ true
+      → can ys x ≡ true → isIn x new ≡ true
+
 -- the reach was worked out in the round before, or never
-abbrev pub Older : Can → (ℕ → Bool) → (ℕ → ℕ → Bool) → ℕ → ℕ → List ℕ → ℕ → List ℕ → List ℕ → Type 0
-Older can done goal n goals set i last waits =
+abbrev pub Older : Can → (ℕ → Bool) → (ℕ → ℕ → Bool) → ℕ → List ℕ → ℕ → List ℕ → List ℕ → Type 0
+Older can done goal n set i last waits =
     (getD last i 0 ≡ 65535)
     ⊎ ((old : List ℕ) × (Sifted (numbers n 0) old
-    × ((set ≡ attractedAll goals can done goal old) × Reached can done goal n old i last waits)))
+    × (Leaves can old set × Reached can done goal n old i last waits)))
 
 -- a round from a start: the set that it is about, and the goals before `at` reached within it
 pub record Round (can : Can) (done : ℕ → Bool) (goal : ℕ → ℕ → Bool) (n goals : ℕ) (start set : List ℕ) (at : ℕ)
@@ -86,7 +92,7 @@ pub record Round (can : Can) (done : ℕ → Bool) (goal : ℕ → ℕ → Bool)
   pub sifted : Sifted (numbers n 0) set
   pub same : heldAfter n goals can done goal set ≡ heldAfter n goals can done goal start
   pub reached : (i : ℕ) → i < at → Reached can done goal n set i last waits
-  pub older : (i : ℕ) → at ≤ i → i < goals → Older can done goal n goals set i last waits
+  pub older : (i : ℕ) → at ≤ i → i < goals → Older can done goal n set i last waits
 
 -- that of a packed game
 abbrev pub RoundIn : List ℕ → ℕ → ℕ → ℕ → ℕ → List ℕ → List ℕ → ℕ → List ℕ → List ℕ → Type 0

@@ -3,6 +3,7 @@
 pub mod play;
 mod reach;
 mod strike;
+mod worklist;
 
 ghost use mathlib.Core.Path.{_≡_};
 ghost use mathlib.Core.Bool.{true};

@@ -11,6 +11,7 @@ use crate::strike::cut;
 use crate::strike::rest;
 use crate::strike::strike;
 use crate::tally;
+use crate::worklist::shrink_all;
 use arrays::copy;
 use arrays::rises;
 ghost use mathlib.Core.Path.{_≡_};
@@ -26,15 +27,18 @@ ghost use Rattle.game.specs.Marks.{Marked, without};
 ghost use Rattle.game.specs.Packed.{placesIn, groupsIn, revIn, startsIn, roomyFor, soundIn, playable, heldIn};
 ghost use Rattle.game.specs.Packed.{waitsIn};
 ghost use Rattle.game.specs.Cuts.{waitsAll};
+ghost use Rattle.game.specs.Draining.{drainedIn, Ending};
 ghost use Rattle.game.specs.Playing.{Fits, Ready, Tested, Worked, Fresh, Sized, RoundIn, Standing, Rest};
 ghost use Rattle.game.specs.Playing.{lastEight};
 
-// How many nodes, groups, positions and goals a game has.
+// How many nodes, groups, positions and goals a game has, and whether each round also strikes out, by a worklist, the
+// nodes that then cannot go on. The answers are the same: it saves rounds where one node after another falls.
 pub struct Shape {
     pub nodes: usize,
     pub groups: usize,
     pub positions: usize,
     pub goals: usize,
+    pub eager: bool,
 }
 
 // Each number is above 0.
@@ -161,6 +165,34 @@ fn shrink(
     left
 }
 
+// A round's end, in the way that the figures say.
+fn narrow(
+    graph: &[u16],
+    game: Figures,
+    waits: &[u16],
+    list: &mut [u16],
+    member: &mut [u16],
+    live: &mut [u16],
+    dead: &mut [u16],
+    gone: &mut [u16],
+) -> usize
+    requires { ⌜ Ending (now graph) (game .nodes) (game .groups) (game .positions) (game .goals) (game .kept)
+        (now waits) (now list) (now member) (now live) (now dead) (now gone) ⌝ }
+    ensures number { λ r. ⌜ r ≡ length (take r (now (list .exit))) ⌝ }
+    ensures still { λ r. ⌜ take r (now (list .exit)) ≡ pick (game .eager)
+        (drainedIn (now (graph .entry)) (game .nodes) (game .groups) (game .positions)
+        (filter (waitsAll (now (waits .entry)) (game .nodes) (game .goals)) (take (game .kept) (now (list .entry)))))
+        (filter (waitsAll (now (waits .entry)) (game .nodes) (game .goals)) (take (game .kept) (now (list .entry)))) ⌝ }
+    ensures marked { λ r. ⌜ Marked (groupsIn (now (graph .entry)) (game .groups))
+        (startsIn (now (graph .entry)) (game .nodes)) (revIn (now (graph .entry)) (game .positions))
+        (take r (now (list .exit))) (now (member .exit)) (now (live .exit)) (now (dead .exit)) ⌝ }
+{
+    if game.eager {
+        return shrink_all(graph, game, waits, list, member, live, dead, gone);
+    }
+    shrink(graph, game, waits, list, member, live, dead, gone)
+}
+
 // The figures of a game with so many nodes in its set.
 fn held(game: Figures, kept: usize) -> Figures
     ensures { λ r. ⌜ r ≡ record {
@@ -169,6 +201,7 @@ fn held(game: Figures, kept: usize) -> Figures
       positions = game .positions;
       goals = game .goals;
       kept = kept;
+      eager = game .eager;
     } ⌝ }
 {
     Figures {
@@ -177,6 +210,7 @@ fn held(game: Figures, kept: usize) -> Figures
         positions: game.positions,
         goals: game.goals,
         kept: kept,
+        eager: game.eager,
     }
 }
 
@@ -275,7 +309,7 @@ fn play(
             &mut queue,
         );
         let now = held(game, kept);
-        let left = shrink(
+        let left = narrow(
             graph,
             now,
             waits,
@@ -421,6 +455,7 @@ pub fn work_out(graph: &[u16], shape: Shape, start: &[u16], waits: &mut [u16]) -
         positions: shape.positions,
         goals: shape.goals,
         kept: start.len(),
+        eager: shape.eager,
     };
     if places(graph.len()) <= 2048 {
         return small(graph, game, start, waits);

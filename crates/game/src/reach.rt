@@ -15,13 +15,15 @@ ghost use Rattle.game.specs.Packed.{groupsIn, revIn, startsIn, goalOf};
 ghost use Rattle.game.specs.Cuts.{offered, Offers};
 ghost use Rattle.game.specs.Playing.{Lined};
 
-// How many nodes, groups, positions and goals a game has, and how many nodes the set has.
+// How many nodes, groups, positions and goals a game has, how many nodes the set has, and whether a round also strikes
+// out the nodes that then cannot go on.
 pub struct Figures {
     pub nodes: usize,
     pub groups: usize,
     pub positions: usize,
     pub goals: usize,
     pub kept: usize,
+    pub eager: bool,
 }
 
 // Bit i of a number, with no test of i: it is read for each node and goal.

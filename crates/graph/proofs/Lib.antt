@@ -5,3 +5,6 @@ pub mod Positions
 pub mod Links
 pub mod Packing
 pub mod Building
+pub mod Gathered
+pub mod Taken
+pub mod Lent

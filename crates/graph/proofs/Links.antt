@@ -15,7 +15,7 @@ use Rattle.sets.proofs.Members.{allIn-at, allIn-all}
 use Rattle.sets.proofs.Numbers.{every-all}
 use Rattle.sets.proofs.First.{first-holds, first-least}
 use Rattle.decoding.proofs.Faults.{PlantOk, plant-tests, arrow-range}
-use Rattle.format.proofs.Stored.{arrows-length}
+use Rattle.decoding.proofs.Order.{arrows-length}
 use Rattle.layout.specs.Layout.{groupStates, groupEnds, groupOwners}
 use Rattle.sort.specs.Sorted.{orderOf, sortedBy, startsOf}
 use Rattle.game.specs.Walked.{nodeAt, canEnter, ordered, allBelow}

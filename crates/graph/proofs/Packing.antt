@@ -3,25 +3,24 @@
 use mathlib.Core.Path.{_≡_, refl, sym, ap, _∙_}
 use mathlib.Core.Bool.{Bool, true}
 use mathlib.Core.List.{List, [], _∷_, _++_}
-use Prim.Native.Nat.{ℕ, zero, suc, _+_, _-_, _*_, _<_, _≤_}
+use Prim.Native.Nat.{ℕ, zero, suc, _+_, _-_, _*_, _≤_}
 use native.Mathlib.Omega.{arith}
 use native.Mathlib.Nat.{zero-add, suc-add}
-use borrow.Author.Tests.{le-leb, le-ltb, lt-ltb}
+use borrow.Author.Tests.{le-ltb}
 use lib.ListN.{length, getD, take, drop, length-take, length-drop, length-map}
 use lib.Seq.{length-take-le, take-all, take-append-le, take-at, drop-at, take-take}
 use Rattle.statements.specs.Sets.{pick, over}
 use Rattle.statements.specs.Plants.{word, plantOf}
-use Rattle.sets.proofs.Tests.{and-true}
 use Rattle.sets.proofs.Over.{over-back}
 use Rattle.format.specs.Checks.{labelsFit}
 use Rattle.arrays.specs.Lists.{fitting}
 use Rattle.arrays.proofs.Guards.{fitting-yes}
 use Rattle.layout.specs.Layout.{Front}
-use Rattle.sort.specs.Sorted.{orderOf, sortedBy, startsOf, sortable}
+use Rattle.sort.specs.Sorted.{orderOf, sortedBy, startsOf}
 use Rattle.sort.proofs.Places.{lower-few}
 use Rattle.sort.proofs.Order.{stable}
 use Rattle.game.specs.Packed.{placesIn}
-use Rattle.graph.specs.Steps.{Alike, Linkable, Linked}
+use Rattle.graph.specs.Steps.{Alike, Linked}
 use Rattle.graph.proofs.Positions.{starts-long}
 
 -- the first numbers from a place on
@@ -64,7 +63,7 @@ part-front a vs xs ys rest h f =
     (take-append-le (length vs) ys rest (front-fits vs ys f) ∙ f)
 
 -- a list written over the first numbers
-over-front : (vs old : List ℕ) → Front vs (over vs old)
+pub over-front : (vs old : List ℕ) → Front vs (over vs old)
 over-front vs old = over-back vs old (length vs) refl
 
 -- the first numbers of a list, copied to a place of another
@@ -88,14 +87,7 @@ front-labels s old new long room e =
     ap (take (length (plantOf s .labels))) (e ∙ ap (λ (b : Bool). pick b (over (plantOf s .labels) old) old) fit)
     ∙ over-back (plantOf s .labels) old (length (plantOf s .labels)) refl
 
--- the lists fit the sort, and it gives no more values than there are keys
-pub sortable-yes : (keys vals n starts out : ℕ) → n ≤ 1024 → keys ≤ 65535 → keys ≤ vals → n < starts → keys ≤ out
-    → sortable keys vals n starts out ≡ true
-unfolding sortable
-sortable-yes keys vals n starts out a b c d e =
-    and-true (le-leb n 1024 a)
-    (and-true (le-leb keys 65535 b) (and-true (le-leb keys vals c) (and-true (lt-ltb n starts d) (le-leb keys out e))))
-
+-- the sort gives no more values than there are keys
 sorted-few : (n : ℕ) (keys vals : List ℕ) → length (sortedBy n keys vals) ≤ length keys
 unfolding sortedBy
 sorted-few n keys vals =
@@ -111,7 +103,7 @@ unfolding placesIn
 places-low m n k s few e f = omega arith
 
 -- the sorted groups, the starts and the labels, put one past the other
-module _ (plant ends owners old part from starts g g₂ labels rest rest′ : List ℕ) (n k s l : ℕ) where
+module _ (plant ends owners part from starts g g₂ labels rest rest′ : List ℕ) (n k s l : ℕ) where
   -- the graph with the sorted groups, and with all three
   abbrev Sorted : List ℕ
   Sorted = take k g ++ (part ++ rest)
@@ -119,20 +111,21 @@ module _ (plant ends owners old part from starts g g₂ labels rest rest′ : Li
   abbrev Whole : List ℕ
   Whole = take l g₂ ++ (labels ++ rest′)
 
-  pub linked : n ≡ word 0 plant → Linkable plant ends owners g → length g₂ ≡ length g → length Whole ≡ length g
+  pub linked : n ≡ word 0 plant → n ≤ 1024 → 2049 ≤ length g → length ends ≤ placesIn (length g)
+      → length g₂ ≡ length g → length Whole ≡ length g
       → k ≡ placesIn (length g) → s ≡ length g - 2049 → l ≡ length g - 1024
-      → part ≡ over (sortedBy n ends owners) old → starts ≡ over (startsOf n ends) from
+      → Front (sortedBy n ends owners) part → starts ≡ over (startsOf n ends) from
       → Alike s g₂ Sorted → Alike (n + 1) (drop s g₂) starts → Front (plantOf plant .labels) labels
       → Linked plant ends owners g Whole
-  linked same fits long size ks ss ls sorted started kept stands labelled =
+  linked same states-few graph-long ends-fit long size ks ss ls sorted started kept stands labelled =
       let rev = sortedBy n ends owners in
       let at = startsOf n ends in
-      let low : k + length ends ≤ s = places-low (length g) (length ends) k s (fits .ends-fit) ks ss in
-      let last : Alike l Whole g₂ = part-kept l g₂ (labels ++ rest′) (omega (arith, fits .graph-long)) in
+      let low : k + length ends ≤ s = places-low (length g) (length ends) k s ends-fit ks ss in
+      let last : Alike l Whole g₂ = part-kept l g₂ (labels ++ rest′) (omega arith) in
       let short = sorted-few n ends owners in
       let starts-are = starts-long n ends owners in
       let rev-first : Front rev (drop k Sorted) =
-      part-front k rev g part rest (omega arith) (rw sorted (over-front rev old)) in
+      part-front k rev g part rest (omega arith) sorted in
       let at-second : Front at (drop s g₂) =
       front-alike (n + 1) at (drop s g₂) starts stands (omega arith) (rw started (over-front at from)) in
       record {
@@ -146,7 +139,7 @@ module _ (plant ends owners old part from starts g g₂ labels rest rest′ : Li
             (front-kept s k rev g₂ Sorted kept (omega arith) rev-first));
         starts-in =
             rw (← same, size, ← ss)
-            (front-kept l s at Whole g₂ last (omega (arith, fits .states-few, fits .graph-long)) at-second);
+            (front-kept l s at Whole g₂ last (omega arith) at-second);
         labels-in =
             rw (size, ← ls)
             (part-front l (plantOf plant .labels) g₂ labels rest′ (omega arith) labelled);

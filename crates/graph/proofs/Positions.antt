@@ -5,7 +5,7 @@ use mathlib.Core.List.{List, [], _∷_, map}
 use Prim.Native.Nat.{ℕ, zero, suc, _+_, _-_, _<_, _≤_}
 use native.Mathlib.Omega.{arith}
 use native.Mathlib.Numerals.{add-one}
-use borrow.Author.Tests.{lt-ltb, eqb-true}
+use borrow.Author.Tests.{eqb-true}
 use lib.Dec.{eqb}
 use lib.ListN.{length, getD, take, length-map}
 use lib.Seq.{slice, getD-take, getD-drop}
@@ -15,7 +15,7 @@ use Rattle.sets.proofs.Joined.{joined-length}
 use Rattle.sort.specs.Sorted.{placesOf, orderOf, sortedBy, lower, startsOf}
 use Rattle.sort.specs.Steps.{countOf}
 use Rattle.sort.specs.Stable.{rankOf}
-use Rattle.sort.proofs.Places.{lower-none, lower-next, lower-up}
+use Rattle.sort.proofs.Places.{lower-none, lower-all, lower-next, lower-up}
 use Rattle.sort.proofs.Order.{stable, parts}
 use Rattle.game.specs.Walked.{nodes, nodeAt}
 use Rattle.game.specs.Steps.{Index}
@@ -27,13 +27,6 @@ map-at : (f : ℕ → ℕ) (xs : List ℕ) (j : ℕ) → j < length xs → getD 
 map-at f [] j h = absurd (omega arith)
 map-at f (x ∷ xs) zero h = refl
 map-at f (x ∷ xs) (suc j) h = map-at f xs j (omega arith)
-
--- all keys are below a limit
-lower-all : (n : ℕ) (keys : List ℕ) → ((a : ℕ) → a < length keys → getD keys a 0 < n) → lower keys n ≡ length keys
-unfolding lower filter
-lower-all n [] low = refl
-lower-all n (k ∷ keys) low =
-    rw (lt-ltb k n (low 0 (omega arith))) (ap suc (lower-all n keys (λ a h. low (suc a) (omega arith))))
 
 -- the places of a key have it
 place-key : (keys : List ℕ) (t i : ℕ) → i < countOf keys (length keys) t

@@ -1,15 +1,24 @@
 -- The graph of a plant in two packed arrays: the groups with their ends, and the links from each end back to its group.
 -- Assumes nothing.
-use mathlib.Core.Bool.{Bool, _&&_}
+use mathlib.Core.Bool.{Bool, _&&_, _||_, not}
 use mathlib.Core.List.{List}
 use Prim.Native.Nat.{ℕ, _+_, _-_, _*_}
-use lib.Dec.{leb}
+use lib.Dec.{eqb, leb}
 use lib.ListN.{length, drop}
-use Rattle.statements.specs.Plants.{Plant}
+use Rattle.statements.specs.Plants.{Plant, plantOf, plantFault}
+use Rattle.statements.specs.Index.{indexBytes, sameBytes}
 use Rattle.sort.specs.Sorted.{sortedBy, startsOf}
 use Rattle.layout.specs.Layout.{groupStates, groupMoves, groupEnds, groupBegins, firstGroups, groupOwners, tableRoom}
 use Rattle.layout.specs.Layout.{Front}
 use Rattle.game.specs.Packed.{placesIn}
+
+-- where an index is lent, its bytes are those of the plant's
+unfoldable pub lent : Bool → Plant → List ℕ → Bool
+lent indexed p index = not indexed || sameBytes index (indexBytes p)
+
+-- a plant is accepted, and so is the index where one is lent
+unfoldable pub accepts : Bool → List ℕ → List ℕ → Bool
+accepts indexed index s = eqb (plantFault s) 0 && lent indexed (plantOf s) index
 
 -- there is room for the graph of a plant
 unfoldable pub roomyPack : Plant → List ℕ → List ℕ → Bool

@@ -1,25 +1,40 @@
 -- What the steps of the packing hand on to each other. Assumes nothing.
 use mathlib.Core.Path.{_≡_}
+use mathlib.Core.Bool.{Bool, true}
 use mathlib.Core.List.{List}
 use Prim.Native.Nat.{ℕ, _+_, _-_, _*_, _≤_}
 use lib.ListN.{length, take, drop}
-use Rattle.statements.specs.Plants.{plantOf, word}
+use Rattle.statements.specs.Plants.{plantOf, plantFault, word}
+use Rattle.statements.specs.Index.{indexBytes, sameBytes}
 use Rattle.sort.specs.Sorted.{sortedBy, startsOf}
-use Rattle.layout.specs.Layout.{Front}
+use Rattle.layout.specs.Layout.{groupEnds, groupOwners, Front}
 use Rattle.game.specs.Packed.{placesIn}
 
 -- the first n numbers of two lists are the same
 abbrev pub Alike : ℕ → List ℕ → List ℕ → Type 0
 Alike n xs ys = take n xs ≡ take n ys
 
--- the states of a plant and the ends of their moves can be linked in the graph
-pub record Linkable (plant ends owners graph : List ℕ) : Type 0 where
-  pub plant-long : 16 + 2 * word 0 plant ≤ length plant
-  pub states-few : word 0 plant ≤ 1024
-  pub ends-few : length ends ≤ 8192
-  pub owned : length ends ≤ length owners
+-- the groups of the ends of an accepted plant are listed, with room for one for each arrow, and so have the links
+pub record Owned (plant : List ℕ) (mask : ℕ) (owners rev : List ℕ) : Type 0 where
+  pub fine : plantFault plant ≡ 0
+  pub owners-are : Front (groupOwners (plantOf plant) mask) owners
+  pub owners-long : word 3 plant ≤ length owners
+  pub rev-long : word 3 plant ≤ length rev
+
+-- what gathering by an index tells: whether the bytes lent are the plant's index, and if so the groups are sorted
+pub record Gathered (plant : List ℕ) (mask : ℕ) (index : List ℕ) (good : Bool) (rev : List ℕ) : Type 0 where
+  pub lent-is : good ≡ sameBytes index (indexBytes (plantOf plant))
+  pub sorted : good ≡ true
+      → Front (sortedBy (word 0 plant) (groupEnds (plantOf plant) mask) (groupOwners (plantOf plant) mask)) rev
+
+-- the ends of the moves in service of an accepted plant, and their groups, can be linked in the graph
+pub record Linkable (plant : List ℕ) (mask : ℕ) (ends owners graph : List ℕ) : Type 0 where
+  pub fine : plantFault plant ≡ 0
+  pub ends-are : ends ≡ groupEnds (plantOf plant) mask
+  pub owners-are : Front (groupOwners (plantOf plant) mask) owners
+  pub owners-long : word 3 plant ≤ length owners
   pub graph-long : 2049 ≤ length graph
-  pub ends-fit : length ends ≤ placesIn (length graph)
+  pub arrows-fit : word 3 plant ≤ placesIn (length graph)
 
 -- the graph has the groups by their ends, where those of each end begin, and the labels; what stood before is kept
 pub record Linked (plant ends owners old new : List ℕ) : Type 0 where

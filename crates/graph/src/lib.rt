@@ -3,20 +3,40 @@
 use arrays::copy;
 use format::plant::labels_to;
 use format::word::number;
+use index::gather;
 use layout::Loaded;
+use layout::deal::deal;
 use layout::load;
 use layout::table_room;
+use sort::begin;
 use sort::sort;
 ghost use mathlib.Core.Path.{_≡_};
-ghost use mathlib.Core.Bool.{true, _&&_};
+ghost use mathlib.Core.Bool.{true, false, _&&_};
 ghost use Prim.Native.Nat.{_+_, _≤_};
-ghost use lib.Dec.{eqb};
 ghost use lib.ListN.{length, drop};
-ghost use Rattle.statements.specs.Sets.{pick};
-ghost use Rattle.statements.specs.Plants.{plantOf, plantFault};
-ghost use Rattle.layout.specs.Layout.{groupStates, groupEnds};
-ghost use Rattle.graph.specs.Packed.{roomyPack, Packed};
-ghost use Rattle.graph.specs.Steps.{Alike, Linkable, Linked};
+ghost use Rattle.statements.specs.Sets.{pick, over};
+ghost use Rattle.statements.specs.Plants.{word, plantOf};
+ghost use Rattle.sort.specs.Sorted.{sortedBy, startsOf};
+ghost use Rattle.layout.specs.Layout.{groupStates, groupEnds, groupOwners, Front};
+ghost use Rattle.graph.specs.Packed.{lent, accepts, roomyPack, Packed};
+ghost use Rattle.graph.specs.Steps.{Alike, Owned, Gathered, Linkable, Linked};
+
+// Whether the links are packed by an index, and the moves in service.
+pub struct Way {
+    pub indexed: bool,
+    pub mask: u32,
+}
+
+// Nothing is built.
+fn none() -> Loaded
+    ensures { λ r. ⌜ r ≡ record { fits = false; groups = 0; arrows = 0 } ⌝ }
+{
+    Loaded {
+        fits: false,
+        groups: 0,
+        arrows: 0,
+    }
+}
 
 // Copies the first numbers of a list to a place of another; what stands before the place is kept.
 fn put(from: &[u16], count: usize, to: &mut [u16], at: usize)
@@ -28,52 +48,145 @@ fn put(from: &[u16], count: usize, to: &mut [u16], at: usize)
     copy(&from[..count], &mut to[at..]);
 }
 
+// The groups by their ends, gathered by an index: each arrow is dealt its group, and the index says in which order the
+// arrows end. Refused where the bytes lent are not the plant's index.
+fn gather_dealt(
+    plant: &[u8],
+    index: &[u8],
+    mask: u32,
+    owners: &[u16],
+    by: &mut [u16],
+    rev: &mut [u16],
+) -> bool
+    requires laid { ⌜ Owned (now plant) mask (now owners) (now rev) ⌝ }
+    requires room { ⌜ word 3 (now plant) ≤ length (now by) ⌝ }
+    ensures { λ r. ⌜ Gathered (now (plant .entry)) mask (now (index .entry)) r (now (rev .exit)) ⌝ }
+{
+    deal(plant, mask, owners, by);
+    gather(plant, index, by, rev) < 65535
+}
+
+// The same. Where all arrows are in service the groups that own the ends stand by arrow already, and none is dealt.
+fn by_index(
+    plant: &[u8],
+    index: &[u8],
+    mask: u32,
+    served: usize,
+    owners: &[u16],
+    rev: &mut [u16],
+) -> bool
+    requires laid { ⌜ Owned (now plant) mask (now owners) (now rev) ⌝ }
+    requires served { ⌜ served ≡ length (groupEnds (plantOf (now plant)) mask) ⌝ }
+    ensures { λ r. ⌜ Gathered (now (plant .entry)) mask (now (index .entry)) r (now (rev .exit)) ⌝ }
+{
+    let count = number(plant, 3) as usize;
+    if served == count {
+        return gather(plant, index, owners, rev) < 65535;
+    }
+    if count <= 2048 {
+        let mut by = [0u16; 2048];
+        return gather_dealt(plant, index, mask, owners, &mut by, rev);
+    }
+    let mut by = [0u16; 8192];
+    gather_dealt(plant, index, mask, owners, &mut by, rev)
+}
+
+// The groups by their ends, and where those of each end begin: gathered by an index, or sorted by counting.
+fn order(
+    plant: &[u8],
+    index: &[u8],
+    way: Way,
+    ends: &[u16],
+    owners: &[u16],
+    starts: &mut [u16],
+    rev: &mut [u16],
+) -> bool
+    requires laid { ⌜ (now ends ≡ groupEnds (plantOf (now plant)) (way .mask))
+        × Owned (now plant) (way .mask) (now owners) (now rev) ⌝ }
+    requires room { ⌜ 1025 ≤ length (now starts) ⌝ }
+    ensures lent { λ r. ⌜ r ≡ lent (way .indexed) (plantOf (now (plant .entry))) (now (index .entry)) ⌝ }
+    ensures starts { λ _. ⌜ now (starts .exit)
+        ≡ over (startsOf (word 0 (now (plant .entry))) (now (ends .entry))) (now (starts .entry)) ⌝ }
+    ensures sorted { λ r. ⌜ (r ≡ true → Front (sortedBy (word 0 (now (plant .entry))) (now (ends .entry))
+        (groupOwners (plantOf (now (plant .entry))) (way .mask))) (now (rev .exit))) ⌝ }
+{
+    let count = number(plant, 0) as usize;
+    if way.indexed {
+        begin(ends, count, starts);
+        return by_index(plant, index, way.mask, ends.len(), owners, rev);
+    }
+    sort(ends, &owners[..ends.len()], count, starts, rev);
+    true
+}
+
 // Packs the links from the ends back to the groups that own them, and the labels.
-fn link(plant: &[u8], ends: &[u16], owners: &[u16], graph: &mut [u16])
-    requires { ⌜ Linkable (now plant) (now ends) (now owners) (now graph) ⌝ }
-    ensures { λ _. ⌜ Linked (now (plant .entry)) (now (ends .entry)) (now (owners .entry)) (now (graph .entry))
-        (now (graph .exit)) ⌝ }
+fn link(
+    plant: &[u8],
+    index: &[u8],
+    way: Way,
+    ends: &[u16],
+    owners: &[u16],
+    graph: &mut [u16],
+) -> bool
+    requires { ⌜ Linkable (now plant) (way .mask) (now ends) (now owners) (now graph) ⌝ }
+    ensures lent { λ r. ⌜ r ≡ lent (way .indexed) (plantOf (now (plant .entry))) (now (index .entry)) ⌝ }
+    ensures linked { λ r. ⌜ (r ≡ true → Linked (now (plant .entry)) (now (ends .entry))
+        (groupOwners (plantOf (now (plant .entry))) (way .mask)) (now (graph .entry)) (now (graph .exit))) ⌝ }
 {
     let count = number(plant, 0) as usize;
     let at = graph.len() - 2049;
     let rev = at / 2;
     let labels = graph.len() - 1024;
     let mut starts = [0u16; 1025];
-    sort(ends, owners, count, &mut starts, &mut graph[rev..at]);
+    let good = order(
+        plant,
+        index,
+        way,
+        ends,
+        owners,
+        &mut starts,
+        &mut graph[rev..at],
+    );
     put(&starts, count + 1, graph, at);
     labels_to(plant, &mut graph[labels..]);
+    good
 }
 
-// Builds the packed arrays of a plant and the moves in service. Where the plant is refused, or an array is too short
-// for it, none is built, and nothing is said of what the arrays hold.
-pub fn build(plant: &[u8], mask: u32, table: &mut [u16], graph: &mut [u16]) -> Loaded
-    ensures fits { λ r. ⌜ r .fits ≡ (eqb (plantFault (now (plant .entry))) 0
+// Builds the packed arrays of a plant and the moves in service, the links by an index where one is lent. Where the plant
+// is refused, the bytes lent are not its index, or an array is too short for it, none is built, and nothing is said of
+// what the arrays hold.
+pub fn build(plant: &[u8], index: &[u8], way: Way, table: &mut [u16], graph: &mut [u16]) -> Loaded
+    ensures fits { λ r. ⌜ r .fits ≡ (accepts (way .indexed) (now (index .entry)) (now (plant .entry))
         && roomyPack (plantOf (now (plant .entry))) (now (table .entry)) (now (graph .entry))) ⌝ }
-    ensures groups { λ r. ⌜ r .groups ≡ pick (r .fits) (length (groupStates (plantOf (now (plant .entry))) mask)) 0 ⌝ }
-    ensures arrows { λ r. ⌜ r .arrows ≡ pick (r .fits) (length (groupEnds (plantOf (now (plant .entry))) mask)) 0 ⌝ }
-    ensures packed { λ r. ⌜ (r .fits ≡ true → Packed (plantOf (now (plant .entry))) mask (now (table .exit))
+    ensures groups { λ r. ⌜ r .groups
+        ≡ pick (r .fits) (length (groupStates (plantOf (now (plant .entry))) (way .mask))) 0 ⌝ }
+    ensures arrows { λ r. ⌜ r .arrows
+        ≡ pick (r .fits) (length (groupEnds (plantOf (now (plant .entry))) (way .mask))) 0 ⌝ }
+    ensures packed { λ r. ⌜ (r .fits ≡ true → Packed (plantOf (now (plant .entry))) (way .mask) (now (table .exit))
         (now (graph .exit))) ⌝ }
 {
     if graph.len() < 2049 {
-        return Loaded {
-            fits: false,
-            groups: 0,
-            arrows: 0,
-        };
+        return none();
     }
     let places = (graph.len() - 2049) / 2;
-    let loaded = load(plant, mask, table, &mut graph[..places]);
-    if loaded.fits {
-        let room = table_room(table.len());
-        let count = loaded.arrows as usize;
-        let ends = 1026 + 2 * room;
-        let owners = 1026 + 3 * room;
-        link(
-            plant,
-            &table[ends..ends + count],
-            &table[owners..owners + count],
-            graph,
-        );
+    let loaded = load(plant, way.mask, table, &mut graph[..places]);
+    if !loaded.fits {
+        return loaded;
     }
-    loaded
+    let room = table_room(table.len());
+    let count = loaded.arrows as usize;
+    let ends = 1026 + 2 * room;
+    let owners = 1026 + 3 * room;
+    let good = link(
+        plant,
+        index,
+        way,
+        &table[ends..ends + count],
+        &table[owners..owners + room],
+        graph,
+    );
+    if good {
+        return loaded;
+    }
+    none()
 }

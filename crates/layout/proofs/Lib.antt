@@ -9,3 +9,5 @@ pub mod Tables
 pub mod Storing
 pub mod Closing
 pub mod Accepted
+pub mod Dealing
+pub mod Served

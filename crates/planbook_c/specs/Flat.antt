@@ -17,7 +17,7 @@ use Rattle.planbook_c.specs.declared.Advice.{Advice}
 use Rattle.planbook_c.specs.declared.Mask.{Mask}
 use Rattle.planbook_c.specs.declared.Part.{Part}
 
--- an answer of make, of withdraw, of a list of withdrawals or of return with the planner's own type
+-- an answer of make, of withdraw, of a list of withdrawals, of return or of index with the planner's own type
 abbrev pub plain : Answer → planner.Answer
 plain r = record { number = r .number; length = r .length; drops = r .drops }
 

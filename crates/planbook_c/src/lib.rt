@@ -2,11 +2,12 @@
 // include/planbook.h says the same in C.
 ghost use mathlib.Core.Path.{_≡_};
 ghost use Rattle.statements.specs.Sets.{pick};
-ghost use Rattle.promises.specs.Says.{MakeSays, WithdrawSays, WithdrawListSays, ReturnSays, PreviewSays, MovesSays};
+ghost use Rattle.promises.specs.Says.{MakeSays, WithdrawSays, WithdrawListSays, ReturnSays, IndexSays, PreviewSays};
+ghost use Rattle.promises.specs.Says.{MakeIndexedSays, WithdrawIndexedSays, MovesSays};
 ghost use Rattle.planbook_c.specs.Flat.{plain, plainCost, plainMask, AdviceSays, PartSays};
 
-// What make, withdraw, a list of withdrawals and return answer: a refusal's number or 0, the book's length, the number
-// of states listed, which a return has gained and the others have dropped.
+// What make, withdraw, a list of withdrawals, return and index answer: a refusal's number or 0, the length of the book
+// or index, the number of states listed, which a return has gained and the others have dropped.
 #[repr(C)]
 pub struct Answer {
     pub number: u32,
@@ -123,6 +124,46 @@ pub extern "C" fn planbook_return(
         (now (out .entry)) (now (out .exit)) (now (gained .entry)) (now (gained .exit)) (plain r) ⌝ }
 {
     flat(books::return_moves(plant, book, mask, out, gained))
+}
+
+// Takes a plant and a buffer. Writes the plant's index and returns its length.
+#[no_mangle]
+pub extern "C" fn planbook_index(plant: &[u8], index: &mut [u8]) -> Answer
+    ensures { λ r. ⌜ IndexSays (now (plant .entry)) (now (index .entry)) (now (index .exit)) (plain r) ⌝ }
+{
+    flat(books::index_plant(plant, index))
+}
+
+// Takes a plant, its index, a mask and a book buffer. Writes the very book that planbook_make writes and returns its
+// length.
+#[no_mangle]
+pub extern "C" fn planbook_make_indexed(
+    plant: &[u8],
+    index: &[u8],
+    mask: u32,
+    book: &mut [u8],
+) -> Answer
+    ensures { λ r. ⌜ MakeIndexedSays (now (plant .entry)) (now (index .entry)) mask
+        (now (book .entry)) (now (book .exit)) (plain r) ⌝ }
+{
+    flat(books::make_indexed(plant, index, mask, book))
+}
+
+// Takes a plant, its index, a book, a mask of moves to withdraw, a book buffer and a drop buffer. Writes the very book
+// that planbook_withdraw writes, and the same states; returns the book's length and how many they are.
+#[no_mangle]
+pub extern "C" fn planbook_withdraw_indexed(
+    plant: &[u8],
+    index: &[u8],
+    book: &[u8],
+    mask: u32,
+    out: &mut [u8],
+    drops: &mut [u8],
+) -> Answer
+    ensures { λ r. ⌜ WithdrawIndexedSays (now (plant .entry)) (now (index .entry)) (now (book .entry)) mask
+        (now (out .entry)) (now (out .exit)) (now (drops .entry)) (now (drops .exit)) (plain r) ⌝ }
+{
+    flat(books::withdraw_indexed(plant, index, book, mask, out, drops))
 }
 
 // Takes a plant, a book, a mask of moves to withdraw and a drop buffer. Writes, by rising number, the states that the

@@ -1,10 +1,12 @@
 -- What each public call cites besides its own contract, clause by clause. Assumes nothing.
 use Rattle.statements.specs.Demands.{Arriving, Demand-2, In-turn, Returning, Demand-3}
+use Rattle.statements.specs.ByIndex.{By-index}
 use Rattle.winning.proofs.Goals.{arriving}
 use Rattle.demands.proofs.Demand2.{demand-2}
 use Rattle.demands.proofs.Demand3.{demand-3}
 use Rattle.demands.proofs.InTurn.{in-turn}
 use Rattle.demands.proofs.Returning.{returning}
+use Rattle.demands.proofs.ByIndex.{by-index}
 use Rattle.promises.specs.Says.{Listed, Determined}
 use Rattle.promises.specs.Rows.{Rows}
 use Rattle.promises.specs.Written.{Demand-2-written}
@@ -12,11 +14,13 @@ use Rattle.promises.specs.Previews.{Previews}
 use Rattle.promises.specs.Traces.{Demand-3-traced}
 use Rattle.promises.specs.InTurn.{In-turn-traced}
 use Rattle.promises.specs.Returning.{Returning-traced}
+use Rattle.promises.specs.Indexed.{Indexed}
 use Rattle.promises.specs.Walks.{Walks}
 use Rattle.promises.proofs.Listed.{lists-dropped}
 use Rattle.promises.proofs.Rows.{rows}
 use Rattle.promises.proofs.Previewed.{previewed}
 use Rattle.promises.proofs.Determined.{determined}
+use Rattle.promises.proofs.Indexed.{withdrawn-plain, indexed}
 use Rattle.promises.proofs.Traces.{demand-3-traced}
 use Rattle.promises.proofs.InTurn.{in-turn-traced}
 use Rattle.promises.proofs.Returning.{returning-traced}
@@ -26,9 +30,13 @@ use Rattle.promises.proofs.Walked.{walks}
 pub of-make : Demand-2 × (Demand-2-written × (Demand-3 × (Demand-3-traced × Determined)))
 of-make = (demand-2, (demand-2-written, (demand-3, (demand-3-traced, determined))))
 
+-- the drop list of a withdrawal, by an index or without one
+listed : Listed
+listed =
+    record { dropped = lists-dropped; dropped-by = λ says z. lists-dropped (withdrawn-plain says z) z }
+
 pub of-withdraw : Demand-2 × (Demand-2-written × (Demand-3 × (Demand-3-traced × (Listed × Determined))))
-of-withdraw =
-    (demand-2, (demand-2-written, (demand-3, (demand-3-traced, (record { dropped = lists-dropped }, determined)))))
+of-withdraw = (demand-2, (demand-2-written, (demand-3, (demand-3-traced, (listed, determined)))))
 
 pub of-withdraw-list :
     Demand-2-written × (Demand-3 × (Demand-3-traced × (In-turn × (In-turn-traced × Determined))))
@@ -37,6 +45,18 @@ of-withdraw-list = (demand-2-written, (demand-3, (demand-3-traced, (in-turn, (in
 pub of-return :
     Demand-2-written × (Demand-3 × (Demand-3-traced × (Returning × (Returning-traced × Determined))))
 of-return = (demand-2-written, (demand-3, (demand-3-traced, (returning, (returning-traced, determined)))))
+
+pub of-index : By-index × (Indexed × Determined)
+of-index = (by-index, (indexed, determined))
+
+pub of-make-indexed :
+    Demand-2 × (Demand-2-written × (Demand-3 × (Demand-3-traced × (By-index × (Indexed × Determined)))))
+of-make-indexed = (demand-2, (demand-2-written, (demand-3, (demand-3-traced, (by-index, (indexed, determined))))))
+
+pub of-withdraw-indexed :
+    Demand-2 × (Demand-2-written × (Demand-3 × (Demand-3-traced × (Listed × (By-index × (Indexed × Determined))))))
+of-withdraw-indexed =
+    (demand-2, (demand-2-written, (demand-3, (demand-3-traced, (listed, (by-index, (indexed, determined)))))))
 
 pub of-preview : Previews × Determined
 of-preview = (previewed, determined)

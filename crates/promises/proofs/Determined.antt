@@ -38,6 +38,7 @@ determined =
       consult = λ h k. same-advice (cc) (cc) (cc) (cc) (cc);
       moves = λ h k. same-mask (cc) (cc);
       writes = λ h k. same-written (h .writes) (k .writes);
+      index = λ s h k. let same = same-written h k in (same .0, same .1);
       preview = λ h k. (same-cost (cc) (cc) (cc), cc);
       row = λ h k. (cc, same-pointer (cc) (cc));
     }

@@ -1,9 +1,10 @@
 -- Laws of what the public calls promise, and what that comes to.
 pub mod Read
+pub mod Determined
+pub mod Indexed
 pub mod Listed
 pub mod Rows
 pub mod Previewed
-pub mod Determined
 pub mod Traces
 pub mod InTurn
 pub mod Returning

@@ -1,6 +1,7 @@
 -- Demand 3 over traces of calls follows from demand 3 over lists of masks and lengths: by its promise each step does to
 -- the standing book, and answers, what the definitions say of its mask and its buffers' lengths. Assumes nothing.
 use mathlib.Core.Path.{_≡_, refl, sym, _∙_, ap}
+use mathlib.Core.Logic.{inl, inr}
 use mathlib.Core.Bool.{Bool, true, false}
 use mathlib.Core.List.{List, [], _∷_}
 use Prim.Native.Nat.{ℕ, _≤_}
@@ -14,11 +15,14 @@ use Rattle.statements.specs.Calls.{maskFault, bookRoom, makeFault, effectOf, an
 use Rattle.statements.specs.Calls.{answers, inService}
 use Rattle.decoding.proofs.Faults.{make-ok}
 use Rattle.demands.proofs.Demand3.{service-ok, demand-3}
+use Rattle.promises.specs.declared.Answer.{Answer}
+use Rattle.promises.specs.Says.{MakeSays}
 use Rattle.promises.specs.Traces.{Step, Keeps}
 use Rattle.promises.specs.Traces.{nextBook, lastBook, Trace, numbersIn, callOf, callsOf, Begun, bookAfter}
 use Rattle.promises.specs.Traces.{serviceAfter, Demand-3-traced}
 use Rattle.sets.proofs.Over.{over-back}
 use Rattle.promises.proofs.Read.{made-read}
+use Rattle.promises.proofs.Indexed.{made-own, made-plain}
 
 -- what an accepted call leaves in its buffer is the book that it writes
 standing-is : (t : Bool) (b written o o′ : List ℕ) (l : ℕ) → l ≡ pick t (length written) 0 →
@@ -52,13 +56,20 @@ trace-answers s b [] h = refl
 trace-answers s b (c ∷ cs) h =
     rw (step-answer s b c (h .0), trace-answers s (nextBook b c) cs (h .1), step-book s b c (h .0)) refl
 
--- the first standing book is that of the make
+-- the first call is said as a plain make, and the first standing book is its book
 module _ (s : List ℕ) (t : Begun s) where
+  made : MakeSays s (t .mask) (t .o) (t .o′) (t .r)
+  made =
+      elim (t .says) [
+        | inl says ↦ says
+        | inr by ↦ made-plain (by .1) (t .is-accepted)
+      ]
+
   pub fault-zero : makeFault s (t .mask) (length (t .o)) ≡ 0
-  fault-zero = sym (t .says .writes .number) ∙ t .is-accepted
+  fault-zero = sym (made .writes .number) ∙ t .is-accepted
 
   first-book : take (t .r .length) (t .o′) ≡ madeBook (plantOf s) (t .mask)
-  first-book = made-read (t .says) (t .is-accepted)
+  first-book = made-read made (t .is-accepted)
 
   book-is : bookAfter s t ≡ standing s (madeBook (plantOf s) (t .mask)) (callsOf (t .steps))
   unfolding bookAfter
@@ -83,9 +94,8 @@ unfolding serviceAfter
 demand-3-traced =
     record {
       as-afresh = λ s t. book-is s t ∙ afresh s t;
-      made-again = λ {s} {o} t says h.
-          let z = says .writes .number ∙ again-accepted s t (length o) h in
-          (z, made-read says z ∙ sym (book-is s t ∙ afresh s t));
+      made-again = again;
+      made-again-by = λ t says h. again t (made-own says) h;
       right = λ s t.
           rw (book-is s t) (demand-3 .right s (t .mask) (length (t .o)) (callsOf (t .steps)) (fault-zero s t));
       told-alone = λ s t. trace-answers s (take (t .r .length) (t .o′)) (t .steps) (t .goes)
@@ -102,3 +112,10 @@ demand-3-traced =
         standing s (madeBook (plantOf s) (t .mask)) (callsOf (t .steps)) ≡
         madeBook (plantOf s) (inService (plantOf s) (t .mask) (callsOf (t .steps)))
     afresh s t = demand-3 .as-afresh s (t .mask) (length (t .o)) (callsOf (t .steps)) (fault-zero s t)
+
+    again : {s o o′ : List ℕ} {r : Answer} (t : Begun s) → MakeSays s (serviceAfter s t) o o′ r →
+        bookLong (plantOf s .settles) (plantOf s .states) (plantOf s .goals) ≤ length o →
+        (r .number ≡ 0) × (take (r .length) o′ ≡ bookAfter s t)
+    again {s} {o} t says h =
+        let z = says .writes .number ∙ again-accepted s t (length o) h in
+        (z, made-read says z ∙ sym (book-is s t ∙ afresh s t))

@@ -18,6 +18,7 @@ use Rattle.winning.proofs.Goals.{arrive-below, arrive-again}
 use Rattle.sets.proofs.Tests.{and-true, not-both}
 use Rattle.sets.proofs.Bits.{bit-none}
 use Rattle.decoding.proofs.Faults.{plant-ok, arrow-range, make-ok, lent-ok, lent-fine, withdraw-ok, list-parts, first-iff}
+use Rattle.decoding.proofs.Indexed.{by-parts}
 use Rattle.decoding.proofs.Asked as asked
 use Rattle.promises.specs.declared.Advice.{Advice}
 use Rattle.promises.specs.declared.Mask.{Mask}
@@ -271,6 +272,10 @@ walks =
       returned = λ {s} {b} {o} {o′} {d} {d′} {back} says z.
           walking s (withdraw-ok s b back (length o) (length d) (no-fault (says .writes) z) .lent .plant)
           (demand-2-written .returned says z);
+      made-by = λ {s} {index} {o} {o′} {mask} says z.
+          walking s (by-parts s index _ (no-fault (says .writes) z) .0) (demand-2-written .made-by says z);
+      withdrawn-by = λ {s} {index} {b} says z.
+          walking s (by-parts s index _ (no-fault (says .writes) z) .0) (demand-2-written .withdrawn-by says z);
       same-advice = λ {b} {x} {i} says z k again.
           determined .consult (consult-again b x i (fine-said says z k) (rw (seek-said says z k) at again)) says;
       same-mask = λ {s} {b} {x} {i} says z k asked again.

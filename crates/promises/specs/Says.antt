@@ -14,8 +14,9 @@ use Rattle.statements.specs.Sets.{pick, over, isIn}
 use Rattle.statements.specs.Plants.{words, plantOf}
 use Rattle.statements.specs.Books.{bytesOf, bookCount, rowPlace, waitAt, moveAt, isLost, arrive, goodMoves}
 use Rattle.statements.specs.Books.{withdrawnBook, droppedStates}
-use Rattle.statements.specs.Calls.{consultFault, movesFault, previewFault, rowPart, Ask, makes, withdraws}
-use Rattle.statements.specs.Calls.{withdrawsList, returns, effectOf}
+use Rattle.statements.specs.Index.{indexBytes}
+use Rattle.statements.specs.Calls.{indexingFault, consultFault, movesFault, previewFault, rowPart, Ask, makes}
+use Rattle.statements.specs.Calls.{withdraws, withdrawsList, returns, makesBy, withdrawsBy, effectOf}
 use Rattle.statements.specs.Demands.{Rising}
 
 -- a call on a book is accepted
@@ -86,6 +87,18 @@ WithdrawListSays s b masks o o′ d d′ r = Says s b (withdrawsList masks) o o�
 abbrev pub ReturnSays : List ℕ → List ℕ → ℕ → List ℕ → List ℕ → List ℕ → List ℕ → Answer → Type 0
 ReturnSays s b back o o′ d d′ r = Says s b (returns back) o o′ d d′ r
 
+-- building a plant's index, with no buffer for a list: 1, 2, 3, 7 or 0; accepted, its bytes stand in the buffer
+abbrev pub IndexSays : List ℕ → List ℕ → List ℕ → Answer → Type 0
+IndexSays s o o′ r = Writes (indexingFault s (length o)) (indexBytes (plantOf s)) [] o o′ [] [] r
+
+-- a make and a withdrawal by an index: 1, 2, 3, 10, 6, 7, and 1, 2, 3, 10, 4 to 7, or 0
+abbrev pub MakeIndexedSays : List ℕ → List ℕ → ℕ → List ℕ → List ℕ → Answer → Type 0
+MakeIndexedSays s index mask o o′ r = Says s [] (makesBy index mask) o o′ [] [] r
+
+abbrev pub WithdrawIndexedSays :
+    List ℕ → List ℕ → List ℕ → ℕ → List ℕ → List ℕ → List ℕ → List ℕ → Answer → Type 0
+WithdrawIndexedSays s index b gone o o′ d d′ r = Says s b (withdrawsBy index gone) o o′ d d′ r
+
 -- previewing a withdrawal: the number is 1 to 7 or 0; an accepted call writes the states that the withdrawal would
 -- drop, as it would, and returns their number and K of the book that it would write; a refused one writes nothing and
 -- has 0 in every other field
@@ -106,10 +119,13 @@ pub record Lists (s one other d d′ : List ℕ) (n : ℕ) : Type 0 where
   pub size : length d′ ≡ length d
   pub past : drop (2 * n) d′ ≡ drop (2 * n) d
 
--- the drop list of every accepted withdrawal is such a list
+-- the drop list of every accepted withdrawal, by an index or without one, is such a list
 pub record Listed : Type 0 where
   pub dropped : {s b o o′ d d′ : List ℕ} {gone : ℕ} {r : Answer} → WithdrawSays s b gone o o′ d d′ r →
       r .number ≡ 0 → Lists s b (take (r .length) o′) d d′ (r .drops)
+  pub dropped-by : {s index b o o′ d d′ : List ℕ} {gone : ℕ} {r : Answer} →
+      WithdrawIndexedSays s index b gone o o′ d d′ r → r .number ≡ 0 →
+      Lists s b (take (r .length) o′) d d′ (r .drops)
 
 -- nothing is left open: what is handed in, the buffers' bytes included, fixes each answer and the buffers' bytes
 -- afterwards
@@ -118,6 +134,8 @@ pub record Determined : Type 0 where
   pub moves : {s b : List ℕ} {x i : ℕ} {r r′ : Mask} → MovesSays s b x i r → MovesSays s b x i r′ → r ≡ r′
   pub writes : {s b : List ℕ} {ask : Ask} {o o′ o″ d d′ d″ : List ℕ} {r r′ : Answer} →
       Says s b ask o o′ d d′ r → Says s b ask o o″ d d″ r′ → (r ≡ r′) × (o′ ≡ o″) × (d′ ≡ d″)
+  pub index : (s : List ℕ) {o o′ o″ : List ℕ} {r r′ : Answer} → IndexSays s o o′ r → IndexSays s o o″ r′ →
+      (r ≡ r′) × (o′ ≡ o″)
   pub preview : {s b d d′ d″ : List ℕ} {gone : ℕ} {c c′ : Cost} →
       PreviewSays s b gone d d′ c → PreviewSays s b gone d d″ c′ → (c ≡ c′) × (d′ ≡ d″)
   -- of a row its bytes and its place

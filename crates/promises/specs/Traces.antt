@@ -1,7 +1,7 @@
 -- Demand 3 over calls as they go: each step has what was handed in, what the buffers held before and after, and the
--- answer, related by what the function promises. Crate statements has the same of lists of masks and lengths.
+-- answer, related by what the function promises. Crate statements has the same of lists of asks and lengths.
 use mathlib.Core.Path.{_≡_}
-use mathlib.Core.Logic.{_↔_}
+use mathlib.Core.Logic.{_↔_, _⊎_}
 use mathlib.Core.List.{List, [], _∷_}
 use Prim.Native.Nat.{ℕ, _≤_}
 use lib.Dec.{eqb}
@@ -10,9 +10,10 @@ use Rattle.promises.specs.declared.Answer.{Answer}
 use Rattle.statements.specs.Sets.{pick}
 use Rattle.statements.specs.Plants.{plantOf}
 use Rattle.statements.specs.Books.{bookLong, madeBook}
+use Rattle.statements.specs.Index.{indexBytes}
 use Rattle.statements.specs.Calls.{Ask, Call, told, inService}
 use Rattle.statements.specs.Demands.{Allowed, Right}
-use Rattle.promises.specs.Says.{Says, MakeSays}
+use Rattle.promises.specs.Says.{Says, MakeSays, MakeIndexedSays}
 
 -- a call that went: what it asked for, its book buffer and its buffer for a list before and after, and its answer
 pub record Step : Type 0 where
@@ -40,7 +41,7 @@ abbrev pub Trace : List ℕ → List ℕ → List Step → Type 0
 Trace s b [] = Unit {0}
 Trace s b (c ∷ cs) = Keeps s b c × Trace s (nextBook b c) cs
 
--- what a trace returned, and its calls: masks and buffers' lengths alone
+-- what a trace returned, and its calls: what they asked for and buffers' lengths alone
 unfoldable pub numbersIn : List Step → List ℕ
 numbersIn [] = []
 numbersIn (c ∷ cs) = c .r .number ∷ numbersIn cs
@@ -52,13 +53,17 @@ unfoldable pub callsOf : List Step → List Call
 callsOf [] = []
 callsOf (c ∷ cs) = callOf c ∷ callsOf cs
 
--- a trace that begins with an accepted make of the plant s: the make, and the steps after it
+-- a make that went, without an index or by one
+abbrev pub AnyMake : List ℕ → ℕ → List ℕ → List ℕ → Answer → Type 0
+AnyMake s mask o o′ r = MakeSays s mask o o′ r ⊎ ((index : List ℕ) × MakeIndexedSays s index mask o o′ r)
+
+-- a trace that begins with an accepted make of the plant s, either of them: the make, and the steps after it
 pub record Begun (s : List ℕ) : Type 0 where
   pub mask : ℕ
   pub o : List ℕ
   pub o′ : List ℕ
   pub r : Answer
-  pub says : MakeSays s mask o o′ r
+  pub says : AnyMake s mask o o′ r
   pub is-accepted : r .number ≡ 0
   pub steps : List Step
   pub goes : Trace s (take (r .length) o′) steps
@@ -79,10 +84,15 @@ pub record Demand-3-traced : Type 0 where
   pub made-again : {s o o′ : List ℕ} {r : Answer} (t : Begun s) → MakeSays s (serviceAfter s t) o o′ r →
       bookLong (plantOf s .settles) (plantOf s .states) (plantOf s .goals) ≤ length o →
       (r .number ≡ 0) × (take (r .length) o′ ≡ bookAfter s t)
+  -- by the plant's index too
+  pub made-again-by : {s o o′ : List ℕ} {r : Answer} (t : Begun s) →
+      MakeIndexedSays s (indexBytes (plantOf s)) (serviceAfter s t) o o′ r →
+      bookLong (plantOf s .settles) (plantOf s .states) (plantOf s .goals) ≤ length o →
+      (r .number ≡ 0) × (take (r .length) o′ ≡ bookAfter s t)
   -- so that demand 2 and requests (i) and (v) hold of it
   pub right : (s : List ℕ) (t : Begun s) →
       Right (plantOf s) (serviceAfter s t) (Allowed (plantOf s)) (bookAfter s t)
-  -- each answer's number is told from the masks and the buffers' lengths alone
+  -- each answer's number is told from the plant, what was asked for and the buffers' lengths alone
   pub told-alone : (s : List ℕ) (t : Begun s) → numbersIn (t .steps) ≡ told (plantOf s) (callsOf (t .steps))
   -- two such traces on one plant end with equal books exactly when the same moves are in service
   pub equal-books : (s : List ℕ) (t u : Begun s) →

@@ -14,6 +14,7 @@ use Rattle.statements.specs.Plants.{plantOf, ends, available}
 use Rattle.statements.specs.Books.{bookMask, stageAt, isLost, goalAfter, passes}
 use Rattle.statements.specs.Strategies.{InGoal, unsettled, Leaves}
 use Rattle.promises.specs.Says.{ConsultSays, MovesSays, WithdrawSays, WithdrawListSays, ReturnSays}
+use Rattle.promises.specs.Says.{MakeIndexedSays, WithdrawIndexedSays}
 use Rattle.promises.specs.Traces.{Begun, bookAfter}
 
 -- the move u taken by a book b in the plant with the bytes s, in state x, seeking goal i: the one that consult answered,
@@ -91,6 +92,11 @@ pub record Walks : Type 0 where
       r .number ≡ 0 → Walking s (take (r .length) o′)
   pub returned : {s b o o′ d d′ : List ℕ} {back : ℕ} {r : Answer} → ReturnSays s b back o o′ d d′ r →
       r .number ≡ 0 → Walking s (take (r .length) o′)
+  -- by the book of an accepted make or withdrawal by an index
+  pub made-by : {s index o o′ : List ℕ} {mask : ℕ} {r : Answer} → MakeIndexedSays s index mask o o′ r →
+      r .number ≡ 0 → Walking s (take (r .length) o′)
+  pub withdrawn-by : {s index b o o′ d d′ : List ℕ} {gone : ℕ} {r : Answer} →
+      WithdrawIndexedSays s index b gone o o′ d d′ r → r .number ≡ 0 → Walking s (take (r .length) o′)
   -- in any book, consult and the call for all good moves answer the same once more for the goal that consult answered
   pub same-advice : {b : List ℕ} {x i : ℕ} {r r′ : Advice} → ConsultSays b x i r → r .number ≡ 0 → r .lost ≡ false →
       ConsultSays b x (r .seek) r′ → r′ ≡ r

@@ -1,8 +1,8 @@
 // No functions: what the public calls answer. What they promise of it is in specs/, what that comes to in proofs/.
 
-// What make, withdraw, a list of withdrawals and return answer: the number of a refusal or 0, the length of the book
-// written and the number of states listed, which a return has gained and the others have dropped. A refused call has 0
-// in both.
+// What make, withdraw, a list of withdrawals, return and index answer: the number of a refusal or 0, the length of the
+// book or index written and the number of states listed, which a return has gained and the others have dropped. A
+// refused call has 0 in both.
 pub struct Answer {
     pub number: u8,
     pub length: u32,

@@ -5,12 +5,14 @@ use format::plant_fault;
 use format::word::mask_ok;
 use format::word::number;
 use format::word::union;
+use index::is_index;
 use rows::book_fault;
 ghost use mathlib.Core.Path.{_≡_};
-ghost use Rattle.statements.specs.Plants.{firstOf, plantOf};
+ghost use Rattle.statements.specs.Plants.{firstOf, plantOf, plantFault};
+ghost use Rattle.statements.specs.Index.{indexFault};
 ghost use Rattle.statements.specs.Calls.{maskFault, wholeMasks, bookRoom, dropRoom, roomFault, makeFault, alike};
 ghost use Rattle.statements.specs.Calls.{lentFault, withdrawFault, withdrawListFault, numberFault, consultFault};
-ghost use Rattle.statements.specs.Calls.{movesFault};
+ghost use Rattle.statements.specs.Calls.{movesFault, byIndex, indexingFault};
 ghost use Rattle.refusals.specs.Ahead.{makeAhead, withdrawAhead, listAhead};
 
 // A book buffer is long enough for a plant's book.
@@ -35,6 +37,47 @@ pub fn make(plant: &[u8], mask: u32, room: usize) -> u8
         return 7;
     }
     0
+}
+
+// What the call that builds an index returns for a buffer's length: 1, 2, 3, 7, or 0 when it is accepted.
+pub fn indexing(plant: &[u8], room: usize) -> u8
+    ensures { λ r. ⌜ r ≡ indexingFault (now (plant .entry)) room ⌝ }
+{
+    let fault = plant_fault(plant);
+    if fault != 0 {
+        return fault;
+    }
+    if !(8 + 2 * (number(plant, 3) as usize) <= room) {
+        return 7;
+    }
+    0
+}
+
+// What a call that is lent a plant and an index returns for these: 1, 2, 3, 10, or 0 when they are accepted.
+fn lent_index(plant: &[u8], index: &[u8]) -> u8
+    ensures { λ r. ⌜ r ≡ firstOf (plantFault (now (plant .entry)))
+        (indexFault (plantOf (now (plant .entry))) (now (index .entry))) ⌝ }
+{
+    let fault = plant_fault(plant);
+    if fault != 0 {
+        return fault;
+    }
+    if !is_index(plant, index) {
+        return 10;
+    }
+    0
+}
+
+// What make by an index returns: 1, 2, 3, 10, 6, 7, or 0 when it is accepted.
+pub fn make_by(plant: &[u8], index: &[u8], mask: u32, room: usize) -> u8
+    ensures { λ r. ⌜ r ≡ byIndex (now (plant .entry)) (now (index .entry))
+        (makeFault (now (plant .entry)) mask room) ⌝ }
+{
+    let wrong = lent_index(plant, index);
+    if wrong != 0 {
+        return wrong;
+    }
+    make(plant, mask, room)
 }
 
 // Make passes the checks ahead of loading: all but those of the plant's labels and arrows.
@@ -99,6 +142,25 @@ pub fn withdraw(plant: &[u8], book: &[u8], gone: u32, room: usize, drops: usize)
         return fault;
     }
     given(plant, gone, room, drops)
+}
+
+// What withdraw by an index returns: 1, 2, 3, 10, 4 to 7, or 0 when it is accepted.
+pub fn withdraw_by(
+    plant: &[u8],
+    index: &[u8],
+    book: &[u8],
+    gone: u32,
+    room: usize,
+    drops: usize,
+) -> u8
+    ensures { λ r. ⌜ r ≡ byIndex (now (plant .entry)) (now (index .entry))
+        (withdrawFault (now (plant .entry)) (now (book .entry)) gone room drops) ⌝ }
+{
+    let bad = lent_index(plant, index);
+    if bad != 0 {
+        return bad;
+    }
+    withdraw(plant, book, gone, room, drops)
 }
 
 // A withdrawal or a return passes the checks ahead of loading.

@@ -96,6 +96,25 @@ joined-longer f g v d same longer (suc n) x =
     omega arith)
     (same-number x v))
 
+-- one that is longer by one makes the whole longer by one
+pub joined-one-more : (f g : ℕ → List ℕ) (v : ℕ) → ((k : ℕ) → (k ≡ v → ⊥) → f k ≡ g k)
+    → length (f v) ≡ suc (length (g v)) → (n x : ℕ) → x ≤ v → v < x + n
+    → length (joined n x f) ≡ suc (length (joined n x g))
+unfolding joined
+joined-one-more f g v same longer zero x low high = absurd (omega arith)
+joined-one-more f g v same longer (suc n) x low high =
+    rw (length-append (f x) (joined n (suc x) f), length-append (g x) (joined n (suc x) g))
+    (⊎-elim
+    (λ e.
+    let others = ap length (joined-same f g n (suc x) (λ k low high. same k (omega arith))) in
+    let here : length (f x) ≡ suc (length (g x)) = rw e longer in
+    omega arith)
+    (λ e.
+    let others = joined-one-more f g v same longer n (suc x) (omega arith) (omega arith) in
+    let here = ap length (same x e) in
+    omega arith)
+    (same-number x v))
+
 -- the first n lists, and the rest
 pub joined-split : (f : ℕ → List ℕ) (n m x : ℕ) → joined (n + m) x f ≡ joined n x f ++ joined m (x + n) f
 unfolding joined

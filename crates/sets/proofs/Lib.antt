@@ -7,4 +7,5 @@ pub mod Iterate
 pub mod Joined
 pub mod Over
 pub mod Rising
+pub mod Keys
 pub mod Pieces

@@ -9,10 +9,10 @@ use lib.Dec.{eqb, ltb, leb}
 use lib.ListN.{length, getD, drop-of-length-le}
 use borrow.Author.Tests.{eqb-true, eq-eqb, ne-eqb, le-leb, lt-leb, ltb-true, ltb-false}
 use Rattle.statements.specs.Sets.{pick, isIn}
-use Rattle.statements.specs.Plants.{Plant, plantOf, plantFault}
+use Rattle.statements.specs.Plants.{Plant, plantOf, headOk, plantFault}
 use Rattle.statements.specs.Kept.{keptWithin}
 use Rattle.statements.specs.Books.{bookLong}
-use Rattle.sets.proofs.Tests.{decided, and-true, and-none}
+use Rattle.sets.proofs.Tests.{decided, and-true, and-left, and-none}
 use Rattle.sets.proofs.Members.{isIn-here, isIn-none}
 use Rattle.sets.proofs.Iterate.{sifted-few}
 use Rattle.kept.proofs.Kept.{kept-sifted, kept-within}
@@ -20,7 +20,9 @@ use Rattle.decoding.proofs.Faults.{states-few}
 use Rattle.arrays.specs.Lists.{among, rising}
 use Rattle.layout.specs.Layout.{tableRoom}
 use Rattle.game.specs.Packed.{placesIn}
-use Rattle.graph.specs.Packed.{roomyPack}
+use Rattle.graph.specs.Packed.{lent, accepts, roomyPack}
+use Rattle.index.specs.Checked.{ascends}
+use Rattle.index.proofs.Exact.{index-exactly}
 use Rattle.solve.specs.Graphed.{Wide}
 use Rattle.solve.specs.Rows.{rowSize, rowsLong, Rowed, rowsOver, solvable, solvedCount, solvedRows}
 use Rattle.solve.proofs.RowMarks.{rows-bytes}
@@ -48,25 +50,25 @@ neither : (a b : Bool) → a && not b ≡ not (not a || b)
 neither true b = refl
 neither false b = refl
 
-module _ (s : List ℕ) (mask : ℕ) (start out : List ℕ) where
+module _ (good : Bool) (s : List ℕ) (mask : ℕ) (start out : List ℕ) where
   -- it cannot work: the mark, and the bytes stay
-  pub not-solved : solvable s start out ≡ false
-      → (65535 ≡ solvedCount s mask start out) × (out ≡ solvedRows s mask start out)
+  pub not-solved : solvable good s start out ≡ false
+      → (65535 ≡ solvedCount good s mask start out) × (out ≡ solvedRows good s mask start out)
   unfolding solvedCount solvedRows
   not-solved e = (rw e, rw e)
 
   -- it works: the number of kept states, and their rows
-  pub solved : solvable s start out ≡ true
+  pub solved : solvable good s start out ≡ true
       → let kept = keptWithin (plantOf s) mask (among start) in
-      (length kept ≡ solvedCount s mask start out) × (rowsOver (plantOf s) mask kept out ≡ solvedRows s mask start out)
+      (length kept ≡ solvedCount good s mask start out) × (rowsOver (plantOf s) mask kept out ≡ solvedRows good s mask start out)
   unfolding solvedCount solvedRows
   solved e = (rw e, rw e)
 
   -- the rows are worked out: what the solver answers
-  pub done-solved : {r : ℕ} {new : List ℕ} → solvable s start out ≡ true
+  pub done-solved : {r : ℕ} {new : List ℕ} → solvable good s start out ≡ true
       → r ≡ length (keptWithin (plantOf s) mask (among start))
       → new ≡ rowsOver (plantOf s) mask (keptWithin (plantOf s) mask (among start)) out
-      → (r ≡ solvedCount s mask start out) × (new ≡ solvedRows s mask start out)
+      → (r ≡ solvedCount good s mask start out) × (new ≡ solvedRows good s mask start out)
   done-solved e number rows = let answer = solved e in (number ∙ answer .0, rows ∙ answer .1)
 
 -- arrays of these lengths have room for a plant with few arrows
@@ -93,21 +95,41 @@ wide-large p few =
       graph-few = omega arith;
     }
 
--- where there is room for every accepted plant, the arrays are built just if the plant is accepted
-pub built : (s table graph : List ℕ) {fits : Bool}
-    → fits ≡ (eqb (plantFault s) 0 && roomyPack (plantOf s) table graph)
-    → (plantFault s ≡ 0 → Wide (plantOf s) (length table) (length graph)) → fits ≡ eqb (plantFault s) 0
+-- a plant that is accepted, with an index or without
+pub accepts-fine : (indexed : Bool) (index s : List ℕ) → accepts indexed index s ≡ true → plantFault s ≡ 0
+unfolding accepts
+accepts-fine indexed index s e = eqb-true (plantFault s) 0 (and-left (eqb (plantFault s) 0) _ e)
+
+-- by its parts
+module _ (indexed : Bool) (index s : List ℕ) where
+  pub accepts-not : (plantFault s ≡ 0 → ⊥) → accepts indexed index s ≡ false
+  unfolding accepts
+  accepts-not bad = rw (ne-eqb (plantFault s) 0 bad) refl
+
+  pub accepts-plain : indexed ≡ false → plantFault s ≡ 0 → accepts indexed index s ≡ true
+  unfolding accepts lent
+  accepts-plain e fine = rw (e, eq-eqb (plantFault s) 0 fine) refl
+
+  pub accepts-by : indexed ≡ true → plantFault s ≡ 0 → ((k : ℕ) → getD index k 0 < 256)
+      → accepts indexed index s ≡ (headOk s && ascends (plantOf s) index)
+  unfolding accepts lent
+  accepts-by e fine bytes = rw (e, eq-eqb (plantFault s) 0 fine) (sym (index-exactly s fine index bytes))
+
+-- where there is room for every accepted plant, the arrays are built just if what is lent is accepted
+pub built : (indexed : Bool) (index s table graph : List ℕ) {fits : Bool}
+    → fits ≡ (accepts indexed index s && roomyPack (plantOf s) table graph)
+    → (plantFault s ≡ 0 → Wide (plantOf s) (length table) (length graph)) → fits ≡ accepts indexed index s
 unfolding roomyPack
-built s table graph is wide =
+built indexed index s table graph is wide =
     ⊎-elim
-    (λ t. let w = wide (eqb-true _ _ t) in
+    (λ t. let w = wide (accepts-fine indexed index s t) in
     is ∙ rw t
     (and-true (le-leb 1026 (length table) (w .table-long))
     (and-true (le-leb (length (plantOf s .arrows)) (tableRoom (length table)) (w .table-room))
     (and-true (le-leb 2049 (length graph) (w .graph-long))
     (le-leb (length (plantOf s .arrows)) (placesIn (length graph)) (w .graph-room))))))
     (λ f. is ∙ rw f)
-    (decided (eqb (plantFault s) 0))
+    (decided (accepts indexed index s))
 
 -- a start with no state
 pub nothing : (xs : List ℕ) → length xs ≡ 0 → xs ≡ []
@@ -130,47 +152,47 @@ done-few s mask start fine e =
     let kept = keptWithin (plantOf s) mask (among start) in
     omega (arith, states-few s fine, sifted-few (plantOf s .states) kept (kept-sifted (plantOf s) mask (among start)))
 
-module _ (s start out : List ℕ) (states long : ℕ) (es : states ≡ plantOf s .states)
+module _ (good : Bool) (s start out : List ℕ) (states long : ℕ) (es : states ≡ plantOf s .states)
     (el : long ≡ bookLong (plantOf s .settles) (plantOf s .states) (plantOf s .goals))
     (rises : Bool) (er : rises ≡ rising 0 states start) where
   -- whether the solver can work, by the tests that the start does not rise or the buffer is too short
-  room-solvable : solvable s start out ≡ eqb (plantFault s) 0 && not (not rises || ltb (length out) long)
+  room-solvable : solvable good s start out ≡ good && not (not rises || ltb (length out) long)
   unfolding solvable
   room-solvable =
       rw (← book-rows (plantOf s), ← el, ← es, ← er, leb-not long (length out))
-      (ap (λ (b : Bool). eqb (plantFault s) 0 && b) (neither rises (ltb (length out) long)))
+      (ap (λ (b : Bool). good && b) (neither rises (ltb (length out) long)))
 
   -- one holds
-  pub short-unsolvable : not rises || ltb (length out) long ≡ true → solvable s start out ≡ false
+  pub short-unsolvable : not rises || ltb (length out) long ≡ true → solvable good s start out ≡ false
   short-unsolvable e =
-      room-solvable ∙ ap (λ (b : Bool). eqb (plantFault s) 0 && not b) e ∙ and-none (eqb (plantFault s) 0) false refl
+      room-solvable ∙ ap (λ (b : Bool). good && not b) e ∙ and-none good false refl
 
 and-all : (a : Bool) → (a && true) ≡ a
 and-all true = refl
 and-all false = refl
 
--- with a start that rises, and room for the rows, the solver can work just if the plant is accepted
-pub fine-solvable : (s start out : List ℕ) → rising 0 (plantOf s .states) start ≡ true
-    → 16 + 2 * rowsLong (plantOf s) ≤ length out → solvable s start out ≡ eqb (plantFault s) 0
+-- with a start that rises, and room for the rows, the solver can work just if what is lent is good
+pub fine-solvable : (good : Bool) (s start out : List ℕ) → rising 0 (plantOf s .states) start ≡ true
+    → 16 + 2 * rowsLong (plantOf s) ≤ length out → solvable good s start out ≡ good
 unfolding solvable
-fine-solvable s start out rises room =
-    ap (λ (b : Bool). eqb (plantFault s) 0 && b) (and-true rises (le-leb (16 + 2 * rowsLong (plantOf s)) (length out) room))
-    ∙ and-all (eqb (plantFault s) 0)
+fine-solvable good s start out rises room =
+    ap (λ (b : Bool). good && b) (and-true rises (le-leb (16 + 2 * rowsLong (plantOf s)) (length out) room))
+    ∙ and-all good
 
 -- no state to start from, and room for the rows
-module _ (s : List ℕ) (mask : ℕ) (out : List ℕ) (room : 16 + 2 * rowsLong (plantOf s) ≤ length out) where
-  -- the plant is refused
-  pub none-unsolved : (plantFault s ≡ 0 → ⊥) → (65535 ≡ solvedCount s mask [] out) × (out ≡ solvedRows s mask [] out)
+module _ (good : Bool) (s : List ℕ) (mask : ℕ) (out : List ℕ) (room : 16 + 2 * rowsLong (plantOf s) ≤ length out) where
+  -- what is lent is refused
+  pub none-unsolved : good ≡ false → (65535 ≡ solvedCount good s mask [] out) × (out ≡ solvedRows good s mask [] out)
   unfolding rising
-  none-unsolved bad = not-solved s mask [] out (fine-solvable s [] out refl room ∙ ne-eqb (plantFault s) 0 bad)
+  none-unsolved bad = not-solved good s mask [] out (fine-solvable good s [] out refl room ∙ bad)
 
   -- it is accepted: none is kept, and marks are all rows
-  pub none-solved : {new : List ℕ} → plantFault s ≡ 0 → Rowed (plantOf s) mask [] [] out new
+  pub none-solved : {new : List ℕ} → good ≡ true → Rowed (plantOf s) mask [] [] out new
       → ((k : ℕ) → k < length new → getD new k 0 < 256)
-      → (0 ≡ solvedCount s mask [] out) × (new ≡ solvedRows s mask [] out)
+      → (0 ≡ solvedCount good s mask [] out) × (new ≡ solvedRows good s mask [] out)
   unfolding rising
   none-solved fine rows small =
       let kept = none-kept (plantOf s) mask in
-      done-solved s mask [] out (fine-solvable s [] out refl room ∙ eq-eqb _ _ fine) (ap length (sym kept))
+      done-solved good s mask [] out (fine-solvable good s [] out refl room ∙ fine) (ap length (sym kept))
       (rows-bytes (plantOf s) mask [] rows small room
       ∙ ap (λ (ys : List ℕ). rowsOver (plantOf s) mask ys out) (sym kept))

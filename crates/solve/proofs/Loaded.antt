@@ -40,7 +40,7 @@ pub record Figures (p : Plant) (mask groups positions : ℕ) (f : Frame) : Type 
   pub groups-is : f .groups ≡ groups
   pub positions-is : f .positions ≡ positions
 
-pub figures-are : (p : Plant) (mask groups positions : ℕ) (f : Frame)
+pub figures-are : (p : Plant) (mask groups positions : ℕ) (eager : Bool) (f : Frame)
     → f ≡ record {
       mask = mask;
       none = p .moves;
@@ -49,9 +49,10 @@ pub figures-are : (p : Plant) (mask groups positions : ℕ) (f : Frame)
       size = rowSize p;
       groups = groups;
       positions = positions;
+      eager = eager;
     }
     → Figures p mask groups positions f
-figures-are p mask groups positions f e =
+figures-are p mask groups positions eager f e =
     record {
       mask-is = ap (λ (f : Frame). f .mask) e;
       none-is = ap (λ (f : Frame). f .none) e;

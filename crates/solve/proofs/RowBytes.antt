@@ -1,8 +1,8 @@
 -- The bytes of two-byte numbers, what a run of stores leaves as it was, and a row written to its place in a book's
 -- bytes. Assumes nothing.
 use mathlib.Core.Path.{_≡_, refl, sym, ap, ap₂, _∙_}
-use mathlib.Core.List.{List, [], _∷_, _++_, append-assoc}
-use Prim.Native.Nat.{ℕ, zero, suc, _+_, _*_, _/_, _%_, _≤_, _<_}
+use mathlib.Core.List.{List, [], _∷_, _++_}
+use Prim.Native.Nat.{ℕ, zero, suc, _+_, _*_, _≤_, _<_}
 use native.Mathlib.Nat.{add-zero}
 use native.Mathlib.Decide.{decLt}
 use native.Mathlib.Omega.{arith}
@@ -12,14 +12,8 @@ use Rattle.statements.specs.Sets.{joined}
 use Rattle.statements.specs.Plants.{Plant}
 use Rattle.statements.specs.Books.{two, bytesOf}
 use Rattle.sets.proofs.Pieces.{two-at}
-use Rattle.decoding.proofs.Sizes.{bytes-length, row-within}
+use Rattle.decoding.proofs.Sizes.{bytes-length, bytes-append, two-of, row-within}
 use Rattle.solve.specs.Rows.{rowSize, rowsLong, numberAt, Around}
-
--- the bytes of one list's numbers, then of another's
-pub bytes-append : (xs ys : List ℕ) → bytesOf (xs ++ ys) ≡ bytesOf xs ++ bytesOf ys
-unfolding bytesOf
-bytes-append [] ys = refl
-bytes-append (x ∷ xs) ys = rw (bytes-append xs ys, append-assoc)
 
 -- of lists put one after the other
 pub bytes-joined : (part : ℕ → List ℕ) (n x : ℕ) → bytesOf (joined n x part) ≡ joined n x (λ k. bytesOf (part k))
@@ -27,14 +21,6 @@ unfolding joined bytesOf
 bytes-joined part zero x = refl
 bytes-joined part (suc n) x =
     bytes-append (part x) _ ∙ ap (λ (ys : List ℕ). bytesOf (part x) ++ ys) (bytes-joined part n (suc x))
-
--- a low byte and a high one are the bytes of the number that they come to
-two-of : (a b : ℕ) → a < 256 → two (a + 256 * b) ≡ a ∷ (b ∷ [])
-unfolding two
-two-of a b h =
-    let low : (a + 256 * b) % 256 ≡ a = omega arith in
-    let high : (a + 256 * b) / 256 ≡ b = omega arith in
-    rw (low, high)
 
 -- number j of a list, read from its bytes
 bytes-at : (xs : List ℕ) (j : ℕ) → j < length xs

@@ -19,11 +19,10 @@ use Rattle.sets.proofs.Tests.{decided, same-number}
 use Rattle.sets.proofs.Members.{filter-same, numbers-holds}
 use Rattle.sets.proofs.Joined.{joined-length, joined-more}
 use Rattle.sets.proofs.Over.{sets-append}
-use Rattle.decoding.proofs.Sizes.{Sizes, bytes-length, row-within}
+use Rattle.decoding.proofs.Sizes.{Sizes, bytes-length, bytes-append, row-within}
 use Rattle.solve.specs.Given.{below}
 use Rattle.solve.specs.Reached.{goes}
 use Rattle.solve.specs.Rows.{rowSize, rowsLong, columnOf, ownMove, entriesOf, rowOf}
-use Rattle.solve.proofs.RowBytes.{bytes-append}
 
 -- waits that agree on the states give one set
 below-same : (a b : List ℕ) (limit s : ℕ) → ((x : ℕ) → x < s → getD a x 0 ≡ getD b x 0)

@@ -95,21 +95,19 @@ pub record Placed (p : Plant) (mask : ℕ) (leave waits : List ℕ) (number : �
       ≡ pick (isNew waits stage x) (getD (rowOf p mask leave waits number x) j 0) (numberAt old (x * rowSize p + j))
   pub around : Around p old new
 
--- a plant that is accepted, a start that is a rising list of its states and room for the header and the rows
-unfoldable pub solvable : List ℕ → List ℕ → List ℕ → Bool
-solvable s start out =
-    eqb (plantFault s) 0 &&
-    (rising 0 (plantOf s .states) start &&
-    leb (16 + 2 * rowsLong (plantOf s)) (length out))
+-- what is lent is good, the start is a rising list of the plant's states, and there is room for the header and the rows
+unfoldable pub solvable : Bool → List ℕ → List ℕ → List ℕ → Bool
+solvable good s start out =
+    good && (rising 0 (plantOf s .states) start && leb (16 + 2 * rowsLong (plantOf s)) (length out))
 
 -- the number kept, and the bytes with the rows written behind the header; 65,535 and nothing where it cannot work
-unfoldable pub solvedCount : List ℕ → ℕ → List ℕ → List ℕ → ℕ
-solvedCount s mask start out =
-    pick (solvable s start out) (length (keptWithin (plantOf s) mask (among start))) lostMark
+unfoldable pub solvedCount : Bool → List ℕ → ℕ → List ℕ → List ℕ → ℕ
+solvedCount good s mask start out =
+    pick (solvable good s start out) (length (keptWithin (plantOf s) mask (among start))) lostMark
 
 unfoldable pub rowsOver : Plant → ℕ → List ℕ → List ℕ → List ℕ
 rowsOver p mask kept out = take 16 out ++ (bytesOf (rowNumbers p mask kept) ++ drop (16 + 2 * rowsLong p) out)
 
-unfoldable pub solvedRows : List ℕ → ℕ → List ℕ → List ℕ → List ℕ
-solvedRows s mask start out =
-    pick (solvable s start out) (rowsOver (plantOf s) mask (keptWithin (plantOf s) mask (among start)) out) out
+unfoldable pub solvedRows : Bool → List ℕ → ℕ → List ℕ → List ℕ → List ℕ
+solvedRows good s mask start out =
+    pick (solvable good s start out) (rowsOver (plantOf s) mask (keptWithin (plantOf s) mask (among start)) out) out

@@ -11,7 +11,8 @@ ghost use Rattle.solve.specs.Given.{Given, below};
 ghost use Rattle.solve.specs.Rows.{rowSize, rowsLong, Rowed, ownMove, entriesOf, rowOf, Placed};
 
 // The figures of a plant that the solver's functions take: moves in service, number of moves, states, goals, how many
-// numbers a row has, and how many groups the moves in service have and how many ends these.
+// numbers a row has, how many groups the moves in service have and how many ends these, and whether states are struck out
+// by a worklist.
 pub(crate) struct Frame {
     pub(crate) mask: u32,
     pub(crate) none: u16,
@@ -20,6 +21,7 @@ pub(crate) struct Frame {
     pub(crate) size: usize,
     pub(crate) groups: usize,
     pub(crate) positions: usize,
+    pub(crate) eager: bool,
 }
 
 // A two-byte number at a place, the low byte first.

@@ -97,13 +97,14 @@ fn grows(plant: &[u8], mask: u32, table: &[u16], none: u16, start: &[u16], stage
     false
 }
 
-// How many nodes, groups, positions and goals the game of a plant has.
+// How many nodes, groups, positions and goals the game of a plant has, and whether its rounds run a worklist.
 fn shape(frame: Frame) -> Shape
     ensures { λ r. ⌜ r ≡ record {
       nodes = frame .states;
       groups = frame .groups;
       positions = frame .positions;
       goals = frame .goals;
+      eager = frame .eager;
     } ⌝ }
 {
     Shape {
@@ -111,6 +112,7 @@ fn shape(frame: Frame) -> Shape
         groups: frame.groups,
         positions: frame.positions,
         goals: frame.goals,
+        eager: frame.eager,
     }
 }
 

@@ -1,4 +1,4 @@
--- The calls' refusals, 1 to 9, and lists of calls: the standing book, and the moves in service as told from the calls.
+-- The calls' refusals, 1 to 10, and lists of calls: the standing book, and the moves in service as told from the calls.
 use mathlib.Core.Bool.{Bool, _&&_, _||_, not}
 use mathlib.Core.List.{List, [], _∷_}
 use Prim.Native.Nat.{ℕ, _*_, _%_}
@@ -11,6 +11,7 @@ use Rattle.statements.specs.Books.{bookLong, bookStates, bookMoves, book
 use Rattle.statements.specs.Books.{maskOk, eachOk, bookHeadOk}
 use Rattle.statements.specs.Books.{bookFault, lessMask, madeBook, withdrawnBook, masksOf, unionOf, withdrawnList}
 use Rattle.statements.specs.Books.{returnedBook, droppedStates, gainedStates}
+use Rattle.statements.specs.Index.{indexLong, indexFault}
 
 -- answer 6: the mask given has a bit at U or above
 unfoldable pub maskFault : Plant → ℕ → ℕ
@@ -67,6 +68,14 @@ withdrawListFault s b m room drops =
 abbrev pub returnFault : List ℕ → List ℕ → ℕ → ℕ → ℕ → ℕ
 returnFault s b back room gained = withdrawFault s b back room gained
 
+-- what a call by an index answers, from what it answers without one: 10 straight after 3
+unfoldable pub byIndex : List ℕ → List ℕ → ℕ → ℕ
+byIndex s index plain = firstOf (plantFault s) (firstOf (indexFault (plantOf s) index) plain)
+
+-- what the call that builds an index answers for a plant's bytes and a buffer's length: 1, 2, 3, 7, or 0
+unfoldable pub indexingFault : List ℕ → ℕ → ℕ
+indexingFault s room = firstOf (plantFault s) (when (not (leb (indexLong (length (plantOf s .arrows))) room)) 7)
+
 -- what preview answers: 1 to 7, or 0, 7 being for the drop buffer alone
 unfoldable pub previewFault : List ℕ → List ℕ → ℕ → ℕ → ℕ
 previewFault s b gone drops =
@@ -91,12 +100,14 @@ rowPart b x =
     pick (eqb (consultFault b x 0) 0) (take (rowLong b) (drop (rowPlace b x) b)) []
 
 -- what a call that writes a book asks for: a mask to make with, moves to withdraw, a list of masks' bytes, moves to
--- return
+-- return; and a making and a withdrawal by an index, with its bytes
 pub data Ask : Type 0 where
   makes : (mask : ℕ) → Ask
   withdraws : (gone : ℕ) → Ask
   withdrawsList : (masks : List ℕ) → Ask
   returns : (back : ℕ) → Ask
+  makesBy : (index : List ℕ) (mask : ℕ) → Ask
+  withdrawsBy : (index : List ℕ) (gone : ℕ) → Ask
 
 -- a call on the standing book: what it asks for, and the lengths of its book buffer and of its buffer for a list, which
 -- has no part in a make
@@ -124,9 +135,22 @@ effectOf s b (withdrawsList masks) =
 effectOf s b (returns back) =
     let after = returnedBook (plantOf s) b back in
     record { number = returnFault s b back; book = after; list = gainedStates b after }
+effectOf s b (makesBy index mask) =
+    record {
+      number = λ room drops. byIndex s index (makeFault s mask room);
+      book = madeBook (plantOf s) mask;
+      list = [];
+    }
+effectOf s b (withdrawsBy index gone) =
+    let after = withdrawnBook (plantOf s) b gone in
+    record {
+      number = λ room drops. byIndex s index (withdrawFault s b gone room drops);
+      book = after;
+      list = droppedStates b after;
+    }
 
--- what is told from the call alone: the number, 6 for a mask, 9 or 6 for a list of them, 7 for a buffer, otherwise 0;
--- and, accepted, the moves in service after it, from those before
+-- what is told from the plant and the call alone: the number, 10 for an index, 6 for a mask, 9 or 6 for a list of them,
+-- 7 for a buffer, otherwise 0; and, accepted, the moves in service after it, from those before
 pub record Told : Type 0 where
   pub number : ℕ → ℕ → ℕ
   pub put : ℕ → ℕ
@@ -148,6 +172,18 @@ toldOf p (returns back) =
     record {
       number = λ room drops. firstOf (maskFault p back) (roomFault p room drops);
       put = λ mask. bitOr mask back;
+    }
+toldOf p (makesBy index new) =
+    record {
+      number = λ room drops.
+          firstOf (indexFault p index) (firstOf (maskFault p new) (when (not (bookRoom p room)) 7));
+      put = λ mask. new;
+    }
+toldOf p (withdrawsBy index gone) =
+    record {
+      number = λ room drops.
+          firstOf (indexFault p index) (firstOf (maskFault p gone) (roomFault p room drops));
+      put = λ mask. lessMask mask gone;
     }
 
 -- the number a call returns, and the standing book after it: a refused call leaves it as it was

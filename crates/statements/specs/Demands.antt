@@ -16,8 +16,8 @@ use Rattle.statements.specs.Books.{arrive, goodMoves}
 use Rattle.statements.specs.Books.{lessMask, madeBook, withdrawnBook, masksOf, unionOf, withdrawnList}
 use Rattle.statements.specs.Books.{returnedBook, droppedStates, gainedStates}
 use Rattle.statements.specs.Calls.{makeFault, withdrawFault, withdrawListFault, returnFault, Call, makes}
-use Rattle.statements.specs.Calls.{withdraws, withdrawsList, returns, standing, answers, numberTold, told}
-use Rattle.statements.specs.Calls.{inService, singles}
+use Rattle.statements.specs.Calls.{withdraws, withdrawsList, returns, makesBy, withdrawsBy, standing, answers}
+use Rattle.statements.specs.Calls.{numberTold, told, inService, singles}
 use Rattle.statements.specs.Strategies.{Run, Wins-by, Wins, Forces, InGoal, Stays, unsettled, following}
 use Rattle.statements.specs.Strategies.{Picks, Serves}
 
@@ -318,6 +318,16 @@ pub record In-service : Type 0 where
       numberTold p c ≡ 0 → (u : ℕ) →
       (bit u (inService p mask (calls ++ (c ∷ []))) ≡ true) ↔
       ((bit u (inService p mask calls) ≡ true) ⊎ (bit u back ≡ true))
+  -- by an index they are put and taken as without one
+  pub made-by : (p : Plant) (mask new room drops : ℕ) (index : List ℕ) (calls : List Call) →
+      let c : Call = record { ask = makesBy index new; room = room; drops = drops } in
+      numberTold p c ≡ 0 → (u : ℕ) →
+      (bit u (inService p mask (calls ++ (c ∷ []))) ≡ true) ↔ (bit u new ≡ true)
+  pub withdrawn-by : (p : Plant) (mask gone room drops : ℕ) (index : List ℕ) (calls : List Call) →
+      let c : Call = record { ask = withdrawsBy index gone; room = room; drops = drops } in
+      numberTold p c ≡ 0 → (u : ℕ) →
+      (bit u (inService p mask (calls ++ (c ∷ []))) ≡ true) ↔
+      ((bit u (inService p mask calls) ≡ true) × (bit u gone ≡ false))
 
 -- demand 3: after any list of calls that follows an accepted make
 pub record Demand-3 : Type 0 where

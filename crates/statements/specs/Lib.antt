@@ -3,9 +3,12 @@ pub mod Sets
 pub mod Plants
 pub mod Kept
 pub mod Books
+pub mod Index
 pub mod Calls
 pub mod Strategies
 pub mod Demands
+pub mod ByIndex
 pub mod Marked
 pub mod MarkedStages
 pub mod MarkedEdges
+pub mod MarkedIndex

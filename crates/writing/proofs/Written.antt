@@ -17,8 +17,8 @@ use Rattle.solve.specs.Rows.{entryNumbers, stageNumbers, oneRow, rowNumbers, ro
 use Rattle.sets.proofs.Tests.{decided}
 use Rattle.sets.proofs.Joined.{joined-length, joined-same}
 use Rattle.sets.proofs.Over.{over-length, over-more}
-use Rattle.decoding.proofs.Sizes.{bytes-length}
-use Rattle.solve.proofs.RowBytes.{bytes-append, bytes-joined}
+use Rattle.decoding.proofs.Sizes.{bytes-length, bytes-append}
+use Rattle.solve.proofs.RowBytes.{bytes-joined}
 use Rattle.solve.proofs.RowMarks.{one-size}
 
 -- one number more

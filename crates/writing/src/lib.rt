@@ -1,6 +1,7 @@
 // Writing: the bytes of a book, and the list of dropped states.
 use format::plant::book_long;
 use format::word::number;
+use graph::Way;
 use rows::lost_in;
 use rows::staged;
 use solve::solve;
@@ -12,6 +13,7 @@ ghost use lib.Seq.{sets};
 ghost use Rattle.statements.specs.Sets.{over};
 ghost use Rattle.statements.specs.Plants.{plantOf, plantFault};
 ghost use Rattle.statements.specs.Books.{two, bytesOf, headOf};
+ghost use Rattle.graph.specs.Packed.{accepts};
 ghost use Rattle.writing.specs.Written.{writtenLong, writtenBook, droppedCount, writtenDrops};
 
 // A two-byte number at a place, the low byte first.
@@ -55,19 +57,21 @@ fn head(plant: &[u8], mask: u32, kept: u16, out: &mut [u8])
     put_all(&numbers, 0, out);
 }
 
-// Writes the book for the moves in service when strategies may not leave the states of a start, a rising list; returns
-// its length. Where the plant is refused, the start is no such list or the buffer is too short it returns 0 and writes
-// nothing.
-pub fn book(plant: &[u8], mask: u32, start: &[u16], out: &mut [u8]) -> u32
-    ensures long { λ r. ⌜ r ≡ writtenLong (now (plant .entry)) (now (start .entry)) (now (out .entry)) ⌝ }
-    ensures bytes { λ _. ⌜ now (out .exit) ≡
-        writtenBook (now (plant .entry)) mask (now (start .entry)) (now (out .entry)) ⌝ }
+// Writes the book for the moves in service when strategies may not leave the states of a start, a rising list, by an
+// index where one is lent; returns its length. Where the plant is refused, the bytes lent are not its index, the start
+// is no such list or the buffer is too short it returns 0 and writes nothing.
+pub fn book(plant: &[u8], index: &[u8], way: Way, start: &[u16], out: &mut [u8]) -> u32
+    ensures long { λ r. ⌜ r ≡ writtenLong (accepts (way .indexed) (now (index .entry)) (now (plant .entry)))
+        (now (plant .entry)) (now (start .entry)) (now (out .entry)) ⌝ }
+    ensures bytes { λ _. ⌜ now (out .exit)
+        ≡ writtenBook (accepts (way .indexed) (now (index .entry)) (now (plant .entry)))
+        (now (plant .entry)) (way .mask) (now (start .entry)) (now (out .entry)) ⌝ }
 {
-    let kept = solve(plant, mask, start, out);
+    let kept = solve(plant, index, way, start, out);
     if kept == 65535 {
         return 0;
     }
-    head(plant, mask, kept as u16, out);
+    head(plant, way.mask, kept as u16, out);
     book_long(plant) as u32
 }
 

@@ -1,13 +1,11 @@
--- `books::make_book` meets its contract: a refused call changes nothing, and an accepted one writes the book of a
--- making. Assumes nothing.
+-- `books::make_book` meets its contract: a make that passes the checks ahead of loading is carried out without an
+-- index, and any other is refused and changes nothing. Assumes nothing.
 use denote.Ref.{now}
-use mathlib.Core.Path.{_≡_, sym, _∙_}
-use mathlib.Core.Bool.{true}
-use lib.ListN.{length}
+use mathlib.Core.Path.{sym, _∙_}
+use mathlib.Core.Bool.{false}
+use mathlib.Core.List.{[]}
 use borrow.Author.Tests.{not-true, not-false}
-use Rattle.refusals.specs.Ahead.{makeAhead}
-use Rattle.refusals.proofs.Ahead.{make-parts}
-use Rattle.books.proofs.Answered.{make-refused, make-none, make-done}
+use Rattle.books.proofs.Answered.{make-refused}
 use Rattle.promises.proofs.Demands.{of-make}
 use borrow.Author.Needs.{needs}
 use Rattle.books.proofs.make_book.Statement.{statement}
@@ -28,55 +26,26 @@ returns c =
     let e = n .before in
     let t = e .before in
     let a = t .before .before .before .args in (
-      make-refused (now (a .plant)) (a .mask) (now (a .out)) _ (c .refused .ensures) (n .make .ensures)
+      make-refused false [] (now (a .plant)) (a .mask) (now (a .out)) _ (c .refused .ensures)
+          (n .make .ensures)
           (sym (t .make-ahead .ensures) ∙ not-true (t .make-ahead .result) (e .if1 .taken)),
       of-make,
     )
 
+slice-aggregate-carry-out : tie.Need-slice-aggregate-carry-out
+slice-aggregate-carry-out c = search needs
+
 -- past the test the call passes the checks ahead of loading
-passes : (c : tie.Else1)
-    → let a = c .before .before .before .before .args in
-    makeAhead (now (a .plant)) (a .mask) (length (now (a .out))) ≡ true
-passes c =
-    let t = c .before in
-    sym (t .make-ahead .ensures) ∙ not-false (t .make-ahead .result) (c .if1 .left)
-
-book-requires : tie.Need-book-requires
-book-requires c κs = let parts = make-parts _ _ _ (passes (c .before)) in (parts .0, parts .2)
-
-make-requires-2 : tie.Need-make-requires-2
-make-requires-2 c κs = search needs
-
-refused-requires-2 : tie.Need-refused-requires-2
-refused-requires-2 c κs = search needs
+carry-out-requires : tie.Need-carry-out-requires
+carry-out-requires c κs =
+    let e = c .before .before in
+    sym (e .before .make-ahead .ensures) ∙ not-false (e .before .make-ahead .result) (e .if1 .left)
 
 same-length : tie.Need-same-length
 same-length c = search needs
 
 returns-2 : tie.Need-returns-2
-returns-2 c =
-    let n = c .before in
-    let z = n .before in
-    let k = z .before .before .before in
-    let e = k .before .before in
-    let a = e .before .before .before .before .args in (
-      make-none (now (a .plant)) (a .mask) (now (a .out)) _ (passes e) (k .book .ensures .0) (k .book .ensures .1) _
-          (z .if2 .taken) (c .refused2 .ensures) (n .make2 .ensures),
-      of-make,
-    )
-
-same-length-2 : tie.Need-same-length-2
-same-length-2 c = search needs
-
-returns-3 : tie.Need-returns-3
-returns-3 c =
-    let k = c .before .before .before in
-    let e = k .before .before in
-    let a = e .before .before .before .before .args in (
-      make-done (now (a .plant)) (a .mask) (now (a .out)) _ (passes e) (k .book .ensures .0) (k .book .ensures .1)
-          (c .if2 .left),
-      of-make,
-    )
+returns-2 c = (c .before .before .carry-out .ensures, of-make)
 
 pub make-book-spec : {M : Type 1} → statement M
 make-book-spec =
@@ -86,10 +55,7 @@ make-book-spec =
     make-requires
     refused-requires
     returns
-    book-requires
-    make-requires-2
-    refused-requires-2
+    slice-aggregate-carry-out
+    carry-out-requires
     same-length
-    returns-2
-    same-length-2
-    returns-3)
+    returns-2)

@@ -1,17 +1,18 @@
 -- `books::return_moves` meets its contract: a refused call changes nothing; an accepted one writes the book of a make
 -- with the old mask and the moves returned, and lists the states kept in it and lost in the old book. Assumes nothing.
 use mathlib.Core.Path.{_≡_, sym, _∙_}
-use mathlib.Core.Bool.{true}
+use mathlib.Core.Bool.{true, false}
+use mathlib.Core.List.{[]}
 use Prim.Native.Nat.{_≤_}
 use native.Mathlib.Omega.{arith}
 use denote.Ref.{now}
-use lib.Dec.{eqb}
 use lib.ListN.{length}
 use lib.Seq.{length-take-le}
 use lib.Bits.{bitOr}
 use borrow.Author.Tests.{not-true, not-false}
-use Rattle.statements.specs.Plants.{plantOf, headOk, plantFault}
+use Rattle.statements.specs.Plants.{plantOf, headOk}
 use Rattle.statements.specs.Calls.{bookRoom}
+use Rattle.graph.specs.Packed.{accepts}
 use Rattle.refusals.specs.Ahead.{withdrawAhead}
 use Rattle.refusals.proofs.Ahead.{make-parts, withdraw-passes}
 use Rattle.books.proofs.Made.{made-fits}
@@ -38,7 +39,7 @@ returns c =
     let a = t .before .before .before .before .before .args in (
       record {
         writes =
-            withdraw-refused (now (a .plant)) (now (a .book)) (a .mask) (now (a .out)) (now (a .gained)) _
+            withdraw-refused false [] (now (a .plant)) (now (a .book)) (a .mask) (now (a .out)) (now (a .gained)) _
             (c .refused .ensures) (n .withdraw .ensures)
             (sym (t .withdraw-ahead .ensures) ∙ not-true (t .withdraw-ahead .result) (e .if1 .taken));
       },
@@ -65,8 +66,11 @@ ready c =
     let parts = make-parts _ _ _ (withdraw-passes _ _ _ _ _ (passes c) .make) in
     (parts .0, parts .2)
 
+slice-aggregate-book : tie.Need-slice-aggregate-book
+slice-aggregate-book c = search needs
+
 book-requires : tie.Need-book-requires
-book-requires c κs = ready (c .before .before)
+book-requires c κs = ready (c .before .before .before)
 
 withdraw-requires-2 : tie.Need-withdraw-requires-2
 withdraw-requires-2 c κs = search needs
@@ -82,26 +86,26 @@ returns-2 c =
     let n = c .before in
     let z = n .before in
     let k = z .before .before .before in
-    let m = k .before .before in
+    let m = k .before .before .before in
     let a = m .before .before .before .before .before .before .before .args in (
-      return-none (now (a .plant)) (now (a .book)) (a .mask) (now (a .out)) (now (a .gained)) _ _ (passes (m .before))
-          (m .mask .ensures) (k .book .ensures .0) (k .book .ensures .1) _ (z .if2 .taken) (c .refused2 .ensures)
+      return-none [] (now (a .plant)) (now (a .book)) (a .mask) (now (a .out)) (now (a .gained)) _ _
+          (passes (m .before)) (m .mask .ensures) (k .book .ensures .0) (k .book .ensures .1) _ (z .if2 .taken) (c .refused2 .ensures)
           (n .withdraw2 .ensures),
       of-return,
     )
 
 -- the book written is no longer than its buffer
-within : (c : tie.After-book) → c .book .result ≤ length (c .book .last .1 .1 .0)
+within : (c : tie.After-book) → c .book .result ≤ length (c .book .last .1 .1 .1 .0)
 within c =
-    let m = c .before .before in
+    let m = c .before .before .before in
     let e = m .before in
     let a = e .before .before .before .before .before .before .args in
     let p = plantOf (now (a .plant)) in
     omega (
       arith,
-      made-fits p (bitOr (m .mask .result) (a .mask)) (eqb (plantFault (now (a .plant))) 0) (length (now (a .out))) (ready e .1)
-          (c .book .ensures .0),
-      c .book .kept .1 .1 .0,
+      made-fits p (bitOr (m .mask .result) (a .mask)) (accepts false [] (now (a .plant))) (length (now (a .out)))
+          (ready e .1) (c .book .ensures .0),
+      c .book .kept .1 .1 .1 .0,
     )
 
 cast-dropped : tie.Need-cast-dropped
@@ -127,10 +131,10 @@ returns-3 c =
     let d = c .before .before in
     let e = d .before .before .before in
     let k = e .before .before .before in
-    let m = k .before .before in
+    let m = k .before .before .before in
     let a = m .before .before .before .before .before .before .before .args in (
-      return-done (now (a .plant)) (now (a .book)) (a .mask) (now (a .out)) (now (a .gained)) _ _ (passes (m .before))
-          (m .mask .ensures) (k .book .ensures .0) (k .book .ensures .1) (e .if2 .left) (d .dropped .ensures .0)
+      return-done [] (now (a .plant)) (now (a .book)) (a .mask) (now (a .out)) (now (a .gained)) _ _
+          (passes (m .before)) (m .mask .ensures) (k .book .ensures .0) (k .book .ensures .1) (e .if2 .left) (d .dropped .ensures .0)
           (d .dropped .ensures .1),
       of-return,
     )
@@ -144,6 +148,7 @@ return-moves-spec =
     refused-requires
     returns
     mask-requires
+    slice-aggregate-book
     book-requires
     withdraw-requires-2
     refused-requires-2

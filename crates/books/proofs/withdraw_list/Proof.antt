@@ -47,9 +47,12 @@ passes c =
     let t = c .before in
     sym (t .withdraw-list-ahead .ensures) ∙ not-false (t .withdraw-list-ahead .result) (c .if1 .left)
 
+slice-aggregate-carry-out : tie.Need-slice-aggregate-carry-out
+slice-aggregate-carry-out c = search needs
+
 carry-out-requires : tie.Need-carry-out-requires
 carry-out-requires c κs =
-    let u = c .before .before in
+    let u = c .before .before .before in
     let e = u .before in
     let a = e .before .before .before .before .before .before .before .args in
     ap
@@ -67,7 +70,7 @@ same-length-2 c = search needs
 returns-2 : tie.Need-returns-2
 returns-2 c =
     let d = c .before .before .before .before in
-    let u = d .before .before .before in
+    let u = d .before .before .before .before in
     (list-says (passes (u .before)) (rw (u .union .ensures) at (d .carry-out .ensures)), of-withdraw-list)
 
 pub withdraw-list-spec : {M : Type 1} → statement M
@@ -79,6 +82,7 @@ withdraw-list-spec =
     refused-requires
     returns
     union-requires
+    slice-aggregate-carry-out
     carry-out-requires
     same-length
     same-length-2

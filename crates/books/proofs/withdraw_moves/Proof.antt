@@ -1,6 +1,8 @@
 -- `books::withdraw_moves` meets its contract: a call that passes the checks ahead of loading is carried out, and any
 -- other is refused and changes nothing. Assumes nothing.
 use mathlib.Core.Path.{sym, _∙_}
+use mathlib.Core.Bool.{false}
+use mathlib.Core.List.{[]}
 use denote.Ref.{now}
 use borrow.Author.Tests.{not-true, not-false}
 use Rattle.books.proofs.Answered.{withdraw-refused}
@@ -26,16 +28,19 @@ returns c =
     let a = t .before .before .before .before .before .args in (
       record {
         writes =
-            withdraw-refused (now (a .plant)) (now (a .book)) (a .mask) (now (a .out)) (now (a .drops)) _
+            withdraw-refused false [] (now (a .plant)) (now (a .book)) (a .mask) (now (a .out)) (now (a .drops)) _
             (c .refused .ensures) (n .withdraw .ensures)
             (sym (t .withdraw-ahead .ensures) ∙ not-true (t .withdraw-ahead .result) (e .if1 .taken));
       },
       of-withdraw,
     )
 
+slice-aggregate-carry-out : tie.Need-slice-aggregate-carry-out
+slice-aggregate-carry-out c = search needs
+
 carry-out-requires : tie.Need-carry-out-requires
 carry-out-requires c κs =
-    let e = c .before .before in
+    let e = c .before .before .before in
     let t = e .before in
     sym (t .withdraw-ahead .ensures) ∙ not-false (t .withdraw-ahead .result) (e .if1 .left)
 
@@ -56,6 +61,7 @@ withdraw-moves-spec =
     withdraw-requires
     refused-requires
     returns
+    slice-aggregate-carry-out
     carry-out-requires
     same-length
     same-length-2

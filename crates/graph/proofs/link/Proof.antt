@@ -1,20 +1,42 @@
--- `graph::link` meets its contract: the groups are sorted into their part, and the starts and the labels are put past
+-- `graph::link` meets its contract: the groups are put in order in their part, and the starts and the labels are put past
 -- it. Assumes nothing.
-use mathlib.Core.Path.{_≡_, refl, _∙_}
+use mathlib.Core.Path.{_≡_, refl, ap, _∙_}
 use mathlib.Core.Bool.{true}
 use mathlib.Core.List.{List}
-use Prim.Native.Nat.{ℕ, _-_, _/_, _≤_}
+use Prim.Native.Nat.{ℕ, _+_, _-_, _*_, _/_, _≤_}
 use native.Mathlib.Omega.{arith}
 use borrow.Author.Needs.{needs}
 use borrow.Rule.Slice.PartMut.{midOf, putMid, same-len-mid, mid-len}
 use denote.Ref.{now}
 use lib.ListN.{length, replicate, length-replicate}
-use Rattle.statements.specs.Plants.{word}
-use Rattle.sort.specs.Sorted.{sortable}
+use Rattle.statements.specs.Plants.{word, plantOf}
+use Rattle.decoding.proofs.Faults.{states-few, plant-tests}
+use Rattle.format.proofs.Header.{plant-states, plant-head}
+use Rattle.decoding.proofs.Order.{arrows-length}
 use Rattle.game.specs.Packed.{placesIn}
-use Rattle.graph.proofs.Packing.{front-labels, linked, picked, sortable-yes}
+use Rattle.graph.proofs.Groups.{ends-few}
+use Rattle.graph.proofs.Packing.{front-labels, linked}
 use Rattle.graph.proofs.link.Statement.{statement}
 use Rattle.graph.proofs.link.Tie as tie
+
+-- the plant has its labels, few states, and no more ends than there are places
+few : (c : tie.Start)
+    → let a = c .args in
+    (16 + 2 * word 0 (now (a .plant)) ≤ length (now (a .plant))) × (word 0 (now (a .plant)) ≤ 1024)
+    × (length (now (a .ends)) ≤ placesIn (length (now (a .graph))))
+few c =
+    let s = now (c .args .plant) in
+    let head = plant-head s (plant-tests s (c .pre .fine) .0) in
+    omega (
+      arith,
+      head .long,
+      states-few s (c .pre .fine),
+      plant-states s,
+      ap length (c .pre .ends-are),
+      ends-few (plantOf s) (c .args .way .mask),
+      arrows-length s,
+      c .pre .arrows-fit,
+    )
 
 number-requires : tie.Need-number-requires
 number-requires c κs = search needs
@@ -28,23 +50,55 @@ sub-at c = search needs
 sub-labels : tie.Need-sub-labels
 sub-labels c = search needs
 
-slice-aggregate-sort : tie.Need-slice-aggregate-sort
-slice-aggregate-sort c = search needs
+slice-aggregate-order : tie.Need-slice-aggregate-order
+slice-aggregate-order c = search needs
 
-mul-sort : tie.Need-mul-sort
-mul-sort c = search needs
+mul-order : tie.Need-mul-order
+mul-order c = search needs
 
-sub-sort : tie.Need-sub-sort
-sub-sort c = search needs
+sub-order : tie.Need-sub-order
+sub-order c = search needs
 
-part-sort-start : tie.Need-part-sort-start
-part-sort-start c = search needs
+part-order-start : tie.Need-part-order-start
+part-order-start c = search needs
 
-part-sort-end : tie.Need-part-sort-end
-part-sort-end c = search needs
+part-order-end : tie.Need-part-order-end
+part-order-end c = search needs
 
-sort-requires : tie.Need-sort-requires
-sort-requires c κs = search needs
+order-requires : tie.Need-order-requires
+unfolding placesIn
+order-requires c κs =
+    let s = c .before .before .before .before .before .before .before .before in
+    let g = now (s .args .graph) in
+    let at = length g - 2049 in
+    let k = at / 2 in (
+      (
+        s .pre .ends-are,
+        record {
+          fine = s .pre .fine;
+          owners-are = s .pre .owners-are;
+          owners-long = s .pre .owners-long;
+          rev-long = omega (arith, s .pre .arrows-fit, s .pre .graph-long, mid-len k at g (omega arith));
+        },
+      ),
+      omega (arith, length-replicate {A = ℕ} 1025 0),
+    )
+
+-- from the order back to the function's entry, and from the starts to it
+abbrev entry : tie.After-order → tie.Start
+entry c = c .before .before .before .before .before .before .before .before .before
+
+-- the graph keeps its length when the groups are in order
+kept : (c : tie.After-order)
+    → let g = now (entry c .args .graph) in
+    let at = length g - 2049 in
+    let k = at / 2 in
+    length (putMid k (at - k) g (c .order .last .1 .1 .1 .1 .1 .1 .0)) ≡ length g
+kept c =
+    let g = now (entry c .args .graph) in
+    let at = length g - 2049 in
+    let k = at / 2 in
+    same-len-mid k (at - k) g (c .order .last .1 .1 .1 .1 .1 .1 .0) (c .order .kept .1 .1 .1 .1 .1 .1 .0)
 
 slice-aggregate-put : tie.Need-slice-aggregate-put
 slice-aggregate-put c = search needs
@@ -53,7 +107,13 @@ add-put : tie.Need-add-put
 add-put c = search needs
 
 put-requires : tie.Need-put-requires
-put-requires c κs = search needs
+put-requires c κs =
+    let o = c .before .before .before .before .before in
+    let s = entry o in
+    let n = o .before .before .before .number .ensures in (
+      omega (arith, few s, n, o .order .kept .1 .1 .1 .1 .1 .0, length-replicate {A = ℕ} 1025 0),
+      omega (arith, few s, n, s .pre .graph-long, kept o),
+    )
 
 mul-labels-to : tie.Need-mul-labels-to
 mul-labels-to c = search needs
@@ -73,58 +133,39 @@ labels-to-requires c κs = search needs
 same-length : tie.Need-same-length
 same-length c = search needs
 
--- from the sort, and from the labels, back to the function's entry
-abbrev entry : tie.After-sort → tie.Start
-entry c = c .before .before .before .before .before .before .before .before
-
-abbrev sorting : tie.After-put → tie.After-sort
-sorting c = c .before .before .before .before .before .before
-
--- the graph is as long as it came
-long : (c : tie.After-put) → length (c .put .last .1 .1 .0) ≡ length (now (entry (sorting c) .args .graph))
-long c =
-    let g = now (entry (sorting c) .args .graph) in
-    let s = length g - 2049 in
-    let k = s / 2 in
-    let part = sorting c .sort .last .1 .1 .1 .1 .0 in
-    let same : length part ≡ length (midOf k (s - k) g) = sorting c .sort .kept .1 .1 .1 .1 .0 in
-    let put : length (c .put .last .1 .1 .0) ≡ length (putMid k (s - k) g part) = c .put .kept .1 .1 .0 in
-    put ∙ same-len-mid k (s - k) g part same
-
 returns : tie.Need-returns
 unfolding placesIn
 returns c =
     let labelled = c .before .before in
     let put = labelled .before .before .before .before in
-    let sort = sorting put in
-    let a = entry sort .args in
-    let n = sort .before .before .before .number .result in
+    let o = put .before .before .before .before .before .before in
+    let st = entry o in
+    let a = st .args in
+    let n = o .before .before .before .number .result in
     let g = now (a .graph) in
     let s = length g - 2049 in
     let k = s / 2 in
     let l = length g - 1024 in
-    let old = midOf k (s - k) g in
     let from : List ℕ = replicate 1025 0 in
-    let read = sort .before .before .before .number .ensures in
-    let fits = entry sort .pre in
-    let keys = length (now (a .ends)) in
-    let low : n ≤ 1024 = omega (arith, fits .states-few) in
-    let sorts : sortable keys (length (now (a .owners))) n (length from) (length old) ≡ true =
-    sortable-yes keys (length (now (a .owners))) n (length from) (length old) low (omega (arith, fits .ends-few))
-    (fits .owned) (omega (arith, length-replicate {A = ℕ} 1025 0))
-    (omega (arith, fits .ends-fit, fits .graph-long, mid-len k s g (omega arith))) in
+    let read = o .before .before .before .number .ensures in
+    let fits = few st in
     let labels = labelled .labels-to .last .1 .0 in
     let g₂ = put .put .last .1 .1 .0 in
+    let long : length g₂ ≡ length g = put .put .kept .1 .1 .0 ∙ kept o in
     let size : length (putMid l (length g₂ - l) g₂ labels) ≡ length g =
-    same-len-mid l (length g₂ - l) g₂ labels (labelled .labels-to .kept .1 .0) ∙ long put in
+    same-len-mid l (length g₂ - l) g₂ labels (labelled .labels-to .kept .1 .0) ∙ long in
     let room : word 0 (now (a .plant)) ≤ length (midOf l (length g₂ - l) g₂) =
-    omega (arith, fits .states-few, fits .graph-long, long put, mid-len l (length g₂) g₂ (omega arith)) in
-    linked (now (a .plant)) (now (a .ends)) (now (a .owners)) old (sort .sort .last .1 .1 .1 .1 .0) from
-    (sort .sort .last .1 .1 .1 .0) g g₂ labels _ _ n k s l read fits (long put) size refl refl refl
-    (picked _ (sort .sort .last .1 .1 .1 .1 .0) _ _ sorts (sort .sort .ensures .1 .1))
-    (picked _ (sort .sort .last .1 .1 .1 .0) _ _ sorts (sort .sort .ensures .1 .0))
-    (put .put .ensures .0) (put .put .ensures .1)
-    (front-labels (now (a .plant)) (midOf l (length g₂ - l) g₂) labels (fits .plant-long) room (labelled .labels-to .ensures))
+    omega (arith, fits, st .pre .graph-long, long, mid-len l (length g₂) g₂ (omega arith)) in (
+      o .order .ensures .0,
+      λ same.
+          linked (now (a .plant)) (now (a .ends)) _ (o .order .last .1 .1 .1 .1 .1 .1 .0) from
+          (o .order .last .1 .1 .1 .1 .1 .0) g g₂ labels _ _ n k s l read (omega (arith, fits, read))
+          (st .pre .graph-long) (fits .2) long size refl refl refl
+          (rw (← read) at (o .order .ensures .1 .1 same)) (rw (← read) at (o .order .ensures .1 .0))
+          (put .put .ensures .0) (put .put .ensures .1)
+          (front-labels (now (a .plant)) (midOf l (length g₂ - l) g₂) labels (fits .0) room
+          (labelled .labels-to .ensures)),
+    )
 
 pub link-spec : {M : Type 1} → statement M
 link-spec =
@@ -134,12 +175,12 @@ link-spec =
     cast-count
     sub-at
     sub-labels
-    slice-aggregate-sort
-    mul-sort
-    sub-sort
-    part-sort-start
-    part-sort-end
-    sort-requires
+    slice-aggregate-order
+    mul-order
+    sub-order
+    part-order-start
+    part-order-end
+    order-requires
     slice-aggregate-put
     add-put
     put-requires

@@ -9,8 +9,8 @@ use lib.ListN.{length, length-set}
 use lib.Seq.{length-take-le, length-front}
 use Rattle.statements.specs.Plants.{plantOf}
 use Rattle.sets.proofs.Tests.{not-both}
+use Rattle.decoding.proofs.Order.{arrows-length}
 use Rattle.format.proofs.Header.{plant-head, plant-states}
-use Rattle.format.proofs.Stored.{arrows-length}
 use Rattle.layout.specs.Layout.{tableRoom}
 use Rattle.layout.specs.Passing.{part, firstPart, Room}
 use Rattle.layout.proofs.Storing.{room-same}

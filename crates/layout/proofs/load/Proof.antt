@@ -7,8 +7,8 @@ use lib.Dec.{leb}
 use lib.ListN.{length}
 use Rattle.statements.specs.Plants.{plantOf, headOk}
 use Rattle.sets.proofs.Tests.{and-iff, and-left}
+use Rattle.decoding.proofs.Order.{arrows-length}
 use Rattle.format.specs.Checks.{labelsFine}
-use Rattle.format.proofs.Stored.{arrows-length}
 use Rattle.layout.specs.Layout.{roomy}
 use Rattle.layout.proofs.Accepted.{room-is, room-of, load-yes, load-no}
 use Rattle.layout.proofs.load.Statement.{statement}

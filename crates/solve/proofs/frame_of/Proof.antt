@@ -15,11 +15,11 @@ number-requires c κs = search needs
 cast-goals : tie.Need-cast-goals
 cast-goals c = search needs
 
-mul-size : tie.Need-mul-size
-mul-size c = search needs
-
 settles-requires : tie.Need-settles-requires
 settles-requires c κs = search needs
+
+mul-size : tie.Need-mul-size
+mul-size c = search needs
 
 add-size : tie.Need-add-size
 add-size c = search needs
@@ -30,14 +30,14 @@ number-requires-2 c κs = search needs
 number-requires-3 : tie.Need-number-requires-3
 number-requires-3 c κs = search needs
 
-cast-t9 : tie.Need-cast-t9
-cast-t9 c = search needs
-
 cast-t10 : tie.Need-cast-t10
 cast-t10 c = search needs
 
 cast-t11 : tie.Need-cast-t11
 cast-t11 c = search needs
+
+cast-t12 : tie.Need-cast-t12
+cast-t12 c = search needs
 
 -- the numbers of a row, where the plant settles and where it does not
 sized-staged : (p : Plant) {t : Bool} {n size : ℕ} → t ≡ p .settles → n ≡ p .goals → t ≡ true → size ≡ 2 * n + 1
@@ -53,20 +53,21 @@ sized-plain p e en left is = is ∙ rw (← e, left, en) refl
 returns : tie.Need-returns
 unfolding plantOf
 returns c =
-    let numbers = c .before .before .before .before .before .before in
-    let s = numbers .before .before in
+    let read = c .before .before .before in
+    let settles = read .before .before in
+    let first = settles .before in
+    let s = first .before .before .before in
     let p = plantOf (s .args .plant .now) in
-    let settles = c .before .before .before .before in
-    let n = c .before .before .before .number2 .ensures in
-    let x = c .before .before .number3 .ensures in
-    let g = numbers .number .ensures in
-    let z = settles .before .settles .ensures in
+    let n = read .before .number2 .ensures in
+    let x = read .number3 .ensures in
+    let g = first .before .number .ensures in
+    let z = first .settles .ensures in
     let size : settles .if1 .size ≡ rowSize p =
     elim (settles .if1 .came) [
       | inl w ↦ sized-staged p z g (w .0 .taken) (w .1)
       | inr w ↦ sized-plain p z g (w .0 .left) (w .1)
     ] in
-    rw (n, x, g, size) refl
+    rw (n, x, g, size, z) refl
 
 pub frame-of-spec : {M : Type 1} → statement M
 frame-of-spec =
@@ -74,12 +75,12 @@ frame-of-spec =
     (tie.spec
     number-requires
     cast-goals
-    mul-size
     settles-requires
+    mul-size
     add-size
     number-requires-2
     number-requires-3
-    cast-t9
     cast-t10
     cast-t11
+    cast-t12
     returns)

@@ -14,7 +14,7 @@ slice-aggregate-within-2 c = search needs
 
 within-requires : tie.Need-within-requires
 within-requires c κs =
-    let s = c .before .before .before .before .before .before in
+    let s = c .before .before .before .before .before .before .before in
     (s .pre .0, (s .pre .1, λ fine. wide-large _ (arrows-few _ fine)))
 
 same-length : tie.Need-same-length

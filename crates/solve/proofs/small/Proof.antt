@@ -13,7 +13,7 @@ slice-aggregate-within-2 c = search needs
 
 within-requires : tie.Need-within-requires
 within-requires c κs =
-    let s = c .before .before .before .before .before .before in
+    let s = c .before .before .before .before .before .before .before in
     (s .pre .1 .0, (s .pre .1 .1, λ _. wide-small _ (s .pre .0)))
 
 same-length : tie.Need-same-length

@@ -10,7 +10,7 @@ use borrow.Author.Needs.{needs}
 use borrow.Author.Tests.{ltb-false, not-false}
 use Rattle.statements.specs.Plants.{plantOf}
 use Rattle.sets.proofs.Tests.{or-neither}
-use Rattle.format.proofs.Stored.{arrows-length}
+use Rattle.decoding.proofs.Order.{arrows-length}
 use Rattle.arrays.specs.Lists.{rising}
 use Rattle.solve.specs.Rows.{rowsLong}
 use Rattle.solve.proofs.Answers as laws
@@ -19,7 +19,7 @@ use Rattle.solve.proofs.solve.Tie as tie
 
 -- the function's entry, seen from the number of states; this, seen from the length
 abbrev entry : tie.After-number → tie.Start
-entry c = c .before .before .before .before
+entry c = c .before .before .before .before .before
 
 abbrev counted : tie.After-book-long → tie.After-number
 counted c = c .before .before
@@ -66,8 +66,8 @@ returns c =
     let long = c .before in
     let number = counted long in
     let a = entry number .args in
-    laws.not-solved (a .plant .now) (a .mask) (a .start .now) (a .out .now)
-    (laws.short-unsolvable (a .plant .now) (a .start .now) (a .out .now) (number .number .result)
+    laws.not-solved _ (a .plant .now) (a .way .mask) (a .start .now) (a .out .now)
+    (laws.short-unsolvable _ (a .plant .now) (a .start .now) (a .out .now) (number .number .result)
     (long .book-long .result) (states-are number) (long .book-long .ensures) _ (long .before .rises .ensures)
     (c .if1 .taken))
 
@@ -83,7 +83,7 @@ returns-2 c =
     let e = call .before .before in
     let a = entry (counted (e .before .before)) .args in
     let none = laws.nothing (a .start .now) (e .if2 .taken) in
-    (rw none (call .nothing .ensures .0 (a .mask)), rw none (call .nothing .ensures .1 (a .mask)))
+    (rw none (call .nothing .ensures .0 (a .way .mask)), rw none (call .nothing .ensures .1 (a .way .mask)))
 
 number-requires-2 : tie.Need-number-requires-2
 number-requires-2 c κs = search needs

@@ -32,10 +32,10 @@ first c = entry (figures c)
 -- the figures are the plant's
 frame : (c : tie.After-frame-of)
     → let a = entry c .args in
-    Figures (plantOf (a .plant .now)) (a .mask) (a .loaded .groups) (a .loaded .arrows) (c .frame-of .result)
+    Figures (plantOf (a .plant .now)) (a .way .mask) (a .loaded .groups) (a .loaded .arrows) (c .frame-of .result)
 frame c =
     let a = entry c .args in
-    figures-are (plantOf (a .plant .now)) (a .mask) (a .loaded .groups) (a .loaded .arrows) (c .frame-of .result)
+    figures-are (plantOf (a .plant .now)) (a .way .mask) (a .loaded .groups) (a .loaded .arrows) _ (c .frame-of .result)
     (c .frame-of .ensures)
 
 -- the number of numbers in all rows
@@ -52,7 +52,7 @@ given c =
     let s = entry c in
     let a = s .args in
     subst (λ (m : ℕ). Given (a .plant .now) m (a .table .now) (c .frame-of .result .none)) (sym (frame c .mask-is))
-    (loaded-given (a .plant .now) (s .pre .0) (a .mask) (a .table .now) (a .graph .now) (s .pre .1 .1 .0 .0)
+    (loaded-given (a .plant .now) (s .pre .0) (a .way .mask) (a .table .now) (a .graph .now) (s .pre .1 .1 .0 .0)
     (s .pre .1 .1 .0 .1 .table-long) (frame c .none-is))
 
 framed : (c : tie.After-frame-of)
@@ -72,7 +72,7 @@ graphed c =
     let f = c .frame-of .result in
     subst (λ (m : ℕ). Graphed (plantOf (a .plant .now)) m (f .groups) (f .positions) (a .graph .now))
     (sym (frame c .mask-is))
-    (loaded-graphed (a .plant .now) (s .pre .0) (a .mask) (a .table .now) (a .graph .now) (s .pre .1 .1 .0 .0)
+    (loaded-graphed (a .plant .now) (s .pre .0) (a .way .mask) (a .table .now) (a .graph .now) (s .pre .1 .1 .0 .0)
     (s .pre .1 .1 .0 .1 .graph-long) (s .pre .1 .1 .0 .1 .graph-room) (s .pre .1 .1 .0 .1 .graph-few)
     (frame c .groups-is ∙ s .pre .1 .0 .0) (frame c .positions-is ∙ s .pre .1 .0 .1))
 
@@ -85,15 +85,15 @@ ended : (c : tie.After-blank) {r : ℕ} {out : List ℕ}
     r ≡ length kept
     → ((old : List ℕ) → Rowed p mask kept [] old (c .blank .last .1 .1 .0) → Rowed p mask kept kept old out)
     → ((k : ℕ) → k < length out → getD out k 0 < 256)
-    → (r ≡ length (keptWithin p (a .mask) (among (a .start .now))))
-    × (out ≡ rowsOver p (a .mask) (keptWithin p (a .mask) (among (a .start .now))) (a .out .now))
+    → (r ≡ length (keptWithin p (a .way .mask) (among (a .start .now))))
+    × (out ≡ rowsOver p (a .way .mask) (keptWithin p (a .way .mask) (among (a .start .now))) (a .out .now))
 ended c {r} {out} number rows small =
     let s = first c in
     let a = s .args in
     let p = plantOf (a .plant .now) in
     let mask = figures c .frame-of .result .mask in
     let kept : ℕ → List ℕ = λ m. keptWithin p m (among (a .start .now)) in
-    let e : mask ≡ a .mask = frame (figures c) .mask-is in (
+    let e : mask ≡ a .way .mask = frame (figures c) .mask-is in (
       number ∙ ap (λ (m : ℕ). length (kept m)) e,
       rows-bytes p mask (kept mask) (rows (a .out .now) (c .blank .ensures mask (kept mask))) small (s .pre .1 .1 .1 .1)
           ∙ ap (λ (m : ℕ). rowsOver p m (kept m) (a .out .now)) e,
@@ -172,7 +172,7 @@ at-once-requires c κs =
           (
             (
               graphed f,
-              loaded-exits (a .plant .now) (s .pre .0) (a .mask) (a .table .now) (a .graph .now) (s .pre .1 .1 .0 .0)
+              loaded-exits (a .plant .now) (s .pre .0) (a .way .mask) (a .table .now) (a .graph .now) (s .pre .1 .1 .0 .0)
                   (a .start .now) (s .pre .1 .1 .1 .0),
             ),
             (

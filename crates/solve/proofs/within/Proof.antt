@@ -6,11 +6,12 @@ use mathlib.Core.Bool.{Bool, true}
 use native.Mathlib.Omega.{arith}
 use lib.ListN.{length}
 use borrow.Author.Needs.{needs}
-use borrow.Author.Tests.{eqb-true, not-true, not-false}
+use borrow.Author.Tests.{not-true, not-false}
 use Rattle.statements.specs.Sets.{pick}
 use Rattle.statements.specs.Plants.{Plant, plantOf, plantFault}
 use Rattle.arrays.proofs.Ordered.{rising-sifted}
 use Rattle.layout.specs.Layout.{groupStates, groupEnds}
+use Rattle.graph.specs.Packed.{accepts}
 use Rattle.solve.specs.Graphed.{Wide}
 use Rattle.solve.specs.Rows.{solvable}
 use Rattle.solve.proofs.Answers as laws
@@ -24,25 +25,29 @@ wide-same p {t = t} {g = g} {g' = g'} w et eg =
 
 -- the function's entry
 abbrev entry : tie.After-build → tie.Start
-entry c = c .before .before .before .before .before .before .before .before
+entry c = c .before .before .before .before .before .before .before .before .before
 
 -- the solver can work if the arrays are built
 can-build : (c : tie.After-build)
     → let a = entry c .args in
-    solvable (a .plant .now) (a .start .now) (a .out .now) ≡ c .build .result .fits
+    solvable (accepts (a .way .indexed) (a .index .now) (a .plant .now)) (a .plant .now) (a .start .now) (a .out .now)
+    ≡ c .build .result .fits
 can-build c =
     let s = entry c in
     let a = s .args in
-    laws.fine-solvable (a .plant .now) (a .start .now) (a .out .now) (s .pre .0) (s .pre .1 .0)
-    ∙ sym (laws.built (a .plant .now) (a .table .now) (a .graph .now) (c .build .ensures .0) (s .pre .1 .1))
+    laws.fine-solvable (accepts (a .way .indexed) (a .index .now) (a .plant .now)) (a .plant .now) (a .start .now)
+    (a .out .now) (s .pre .0) (s .pre .1 .0)
+    ∙ sym (laws.built (a .way .indexed) (a .index .now) (a .plant .now) (a .table .now) (a .graph .now)
+    (c .build .ensures .0) (s .pre .1 .1))
 
 -- and then the plant is accepted
 accepted : (c : tie.After-build) → c .build .result .fits ≡ true → plantFault (entry c .args .plant .now) ≡ 0
 accepted c fits =
     let s = entry c in
     let a = s .args in
-    eqb-true _ _
-    (sym (laws.built (a .plant .now) (a .table .now) (a .graph .now) (c .build .ensures .0) (s .pre .1 .1)) ∙ fits)
+    laws.accepts-fine (a .way .indexed) (a .index .now) (a .plant .now)
+    (sym (laws.built (a .way .indexed) (a .index .now) (a .plant .now) (a .table .now) (a .graph .now)
+    (c .build .ensures .0) (s .pre .1 .1)) ∙ fits)
 
 build-requires : tie.Need-build-requires
 build-requires c κs = search needs
@@ -57,7 +62,7 @@ returns : tie.Need-returns
 returns c =
     let build = c .before .before .before .before .before .before in
     let a = entry build .args in
-    laws.not-solved (a .plant .now) (a .mask) (a .start .now) (a .out .now)
+    laws.not-solved _ (a .plant .now) (a .way .mask) (a .start .now) (a .out .now)
     (can-build build ∙ not-true _ (c .if1 .taken))
 
 solved-requires : tie.Need-solved-requires
@@ -74,11 +79,11 @@ solved-requires c κs =
       fine,
       (
         (
-          e .1 .0 ∙ ap (λ (b : Bool). pick b (length (groupStates p (a .mask))) 0) fits,
-          e .1 .1 .0 ∙ ap (λ (b : Bool). pick b (length (groupEnds p (a .mask))) 0) fits,
+          e .1 .0 ∙ ap (λ (b : Bool). pick b (length (groupStates p (a .way .mask))) 0) fits,
+          e .1 .1 .0 ∙ ap (λ (b : Bool). pick b (length (groupEnds p (a .way .mask))) 0) fits,
         ),
         (
-          (e .1 .1 .1 fits, wide-same p wide (build .build .kept .1 .1 .0) (build .build .kept .1 .1 .1 .0)),
+          (e .1 .1 .1 fits, wide-same p wide (build .build .kept .1 .1 .1 .0) (build .build .kept .1 .1 .1 .1 .0)),
           (rising-sifted (p .states) (a .start .now) (s .pre .0), s .pre .1 .0),
         ),
       ),
@@ -92,7 +97,7 @@ cast-result c =
     let a = entry build .args in
     omega (
       arith,
-      laws.done-few (a .plant .now) (a .mask) (a .start .now) (accepted build (not-false _ (else .if1 .left)))
+      laws.done-few (a .plant .now) (a .way .mask) (a .start .now) (accepted build (not-false _ (else .if1 .left)))
           (call .solved .ensures .0),
     )
 
@@ -111,7 +116,7 @@ returns-2 c =
     let else = call .before .before .before .before in
     let build = else .before .before .before .before .before .before in
     let a = entry build .args in
-    laws.done-solved (a .plant .now) (a .mask) (a .start .now) (a .out .now)
+    laws.done-solved _ (a .plant .now) (a .way .mask) (a .start .now) (a .out .now)
     (can-build build ∙ not-false _ (else .if1 .left)) (call .solved .ensures .0) (call .solved .ensures .1)
 
 pub within-spec : {M : Type 1} → statement M

@@ -3,11 +3,12 @@
 -- them the book. Assumes nothing.
 use denote.Ref.{now}
 use mathlib.Core.Path.{_≡_}
-use mathlib.Core.Bool.{true}
+use mathlib.Core.Bool.{Bool, true}
 use native.Mathlib.Omega.{arith}
 use Rattle.statements.specs.Plants.{plantOf, plantFault}
 use Rattle.decoding.proofs.Faults.{long-few}
-use Rattle.solve.proofs.Answers.{book-rows}
+use Rattle.graph.specs.Packed.{accepts}
+use Rattle.solve.proofs.Answers.{book-rows, accepts-fine}
 use Rattle.writing.specs.Written.{writable}
 use Rattle.writing.proofs.Solved.{writable-fine, room-of, kept-few, has-solved}
 use Rattle.writing.proofs.Solved.{mark-unwritten, book-done}
@@ -17,24 +18,28 @@ use Rattle.writing.proofs.book.Tie as tie
 
 -- the function's entry, seen from the solver's call, and this, seen from past the test
 abbrev entry : tie.After-solve → tie.Start
-entry c = c .before .before .before .before .before
+entry c = c .before .before .before .before .before .before
 
 abbrev solved : tie.Else1 → tie.After-solve
 solved c = c .before .before .before
 
+-- what is lent is good, and then the plant is accepted
+abbrev good : tie.Start → Bool
+good s = let a = s .args in accepts (a .way .indexed) (a .index .now) (a .plant .now)
+
 -- past the test the book can be written
 can : (c : tie.Else1)
     → let a = entry (solved c) .args in
-    writable (a .plant .now) (a .start .now) (a .out .now) ≡ true
+    writable (good (entry (solved c))) (a .plant .now) (a .start .now) (a .out .now) ≡ true
 can c =
     let a = entry (solved c) .args in
-    has-solved (now (a .plant)) (a .mask) (now (a .start)) (now (a .out)) (solved c .solve .ensures .0) (c .if1 .left)
+    has-solved (good (entry (solved c))) (now (a .plant)) (a .way .mask) (now (a .start)) (now (a .out)) (accepts-fine _ _ _) (solved c .solve .ensures .0) (c .if1 .left)
 
 -- so the plant is accepted
 accepted : (c : tie.Else1) → plantFault (entry (solved c) .args .plant .now) ≡ 0
 accepted c =
     let a = entry (solved c) .args in
-    writable-fine (now (a .plant)) (now (a .start)) (now (a .out)) (can c)
+    accepts-fine _ _ _ (writable-fine (good (entry (solved c))) (now (a .plant)) (now (a .start)) (now (a .out)) (can c))
 
 solve-requires : tie.Need-solve-requires
 solve-requires c κs = search needs
@@ -46,7 +51,7 @@ returns : tie.Need-returns
 returns c =
     let v = c .before .before .before in
     let a = entry v .args in
-    mark-unwritten (now (a .plant)) (a .mask) (now (a .start)) (now (a .out)) (v .solve .ensures .0)
+    mark-unwritten (good (entry v)) (now (a .plant)) (a .way .mask) (now (a .start)) (now (a .out)) (accepts-fine _ _ _) (v .solve .ensures .0)
     (v .solve .ensures .1) (c .if1 .taken)
 
 cast-head : tie.Need-cast-head
@@ -54,7 +59,7 @@ cast-head c =
     let a = entry (solved c) .args in
     omega (
       arith,
-      kept-few (now (a .plant)) (a .mask) (now (a .start)) (now (a .out)) (solved c .solve .ensures .0) (can c),
+      kept-few (good (entry (solved c))) (now (a .plant)) (a .way .mask) (now (a .start)) (now (a .out)) (accepts-fine _ _ _) (solved c .solve .ensures .0) (can c),
     )
 
 head-requires : tie.Need-head-requires
@@ -66,8 +71,8 @@ head-requires c κs =
       omega (
         arith,
         book-rows (plantOf (now (a .plant))),
-        room-of (now (a .plant)) (now (a .start)) (now (a .out)) (can e),
-        v .solve .kept .1 .1 .1 .0,
+        room-of (good (entry v)) (now (a .plant)) (now (a .start)) (now (a .out)) (can e),
+        v .solve .kept .1 .1 .1 .1 .0,
       ),
     )
 
@@ -88,7 +93,7 @@ returns-2 c =
     let e = h .before .before in
     let v = solved e in
     let a = entry v .args in
-    book-done (now (a .plant)) (a .mask) (now (a .start)) (now (a .out)) (v .solve .ensures .0)
+    book-done (good (entry v)) (now (a .plant)) (a .way .mask) (now (a .start)) (now (a .out)) (accepts-fine _ _ _) (v .solve .ensures .0)
     (v .solve .ensures .1) (can e) (c .book-long .ensures) (h .head .ensures)
 
 pub book-spec : {M : Type 1} → statement M

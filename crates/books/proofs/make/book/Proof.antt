@@ -1,5 +1,5 @@
 -- `books::make::book` meets its contract: it writes the book within the allowed states, struck out of the list of all
--- states, which is the book of a making, or nothing where the plant is refused. Assumes nothing.
+-- states, which is the book of a making, or nothing where plant or index is refused. Assumes nothing.
 use denote.Ref.{now}
 use mathlib.Core.Path.{_≡_, sym, _∙_}
 use Prim.Native.Nat.{_≤_}
@@ -23,7 +23,7 @@ slice-aggregate-states : tie.Need-slice-aggregate-states
 slice-aggregate-states c = search needs
 
 states-requires : tie.Need-states-requires
-states-requires c κs = few (c .before .before .before)
+states-requires c κs = few (c .before .before .before .before)
 
 slice-aggregate-allowed : tie.Need-slice-aggregate-allowed
 slice-aggregate-allowed c = search needs
@@ -31,14 +31,14 @@ slice-aggregate-allowed c = search needs
 -- there is a place for each state
 room : (c : tie.After-states) → c .states .result ≤ length (c .states .last .1 .0)
 room c =
-    omega (arith, c .states .ensures .0, few (c .before .before .before .before), c .states .kept .1 .0)
+    omega (arith, c .states .ensures .0, few (c .before .before .before .before .before), c .states .kept .1 .0)
 
 allowed-requires : tie.Need-allowed-requires
-allowed-requires c κs = (c .before .before .before .before .before .before .pre .0, room (c .before .before))
+allowed-requires c κs = (c .before .before .before .before .before .before .before .pre .0, room (c .before .before))
 
 -- the allowed states are left, at the front
 started : (c : tie.After-allowed)
-    → let p = plantOf (now (c .before .before .before .before .before .before .before .args .plant)) in
+    → let p = plantOf (now (c .before .before .before .before .before .before .before .before .args .plant)) in
     let list = c .allowed .last .1 .0 in
     (c .allowed .result ≤ length list)
     × (take (c .allowed .result) list ≡ filter (allowed p) (numbers (p .states) 0))
@@ -63,10 +63,10 @@ returns : tie.Need-returns
 returns c =
     let k = c .before .before in
     let l = k .before .before .before .before in
-    let s = l .before .before .before .before .before .before .before in
+    let s = l .before .before .before .before .before .before .before .before in
     let a = s .args in
-    made-written (now (a .plant)) (a .mask) _ (now (a .out)) (s .pre .1) (started l .1)
-    (k .book .ensures .0) (k .book .ensures .1)
+    made-written (a .way .indexed) (now (a .index)) (now (a .plant)) (a .way .mask) _ (now (a .out)) (s .pre .1)
+    (started l .1) (k .book .ensures .0) (k .book .ensures .1)
 
 pub book-spec : {M : Type 1} → statement M
 book-spec =

@@ -1,18 +1,18 @@
 -- `books::withdraw::carry_out` meets its contract: it writes the book within the allowed states that the old book
--- keeps, for the old mask less the moves withdrawn, and lists the states that this book loses; or the plant is
+-- keeps, for the old mask less the moves withdrawn, and lists the states that this book loses; or plant or index is
 -- refused, and nothing is written. Assumes nothing.
 use denote.Ref.{now}
 use mathlib.Core.Path.{_≡_, sym}
 use Prim.Native.Nat.{_≤_}
 use native.Mathlib.Omega.{arith}
-use lib.Dec.{eqb}
 use lib.ListN.{length, take}
 use lib.Seq.{length-take-le}
 use lib.Bits.{and-le-l}
 use Rattle.statements.specs.Sets.{pick, filter, over}
-use Rattle.statements.specs.Plants.{plantOf, plantFault, allowed}
+use Rattle.statements.specs.Plants.{plantOf, allowed}
 use Rattle.statements.specs.Books.{bookStates, bookKept, withdrawnBook}
 use Rattle.decoding.proofs.Sizes.{kept-few}
+use Rattle.graph.specs.Packed.{accepts}
 use Rattle.writing.proofs.Solved.{written-fits}
 use Rattle.refusals.proofs.Ahead.{plant-few, make-parts, WithdrawPasses, withdraw-passes, passes-states}
 use Rattle.books.proofs.Made.{struck, withdrawn-written}
@@ -40,7 +40,7 @@ slice-aggregate-kept c = search needs
 
 kept-requires : tie.Need-kept-requires
 kept-requires c κs =
-    let s = c .before .before .before .before .before in
+    let s = c .before .before .before .before .before .before in
     (ok s .book, omega (arith, few s, states s))
 
 slice-aggregate-allowed : tie.Need-slice-aggregate-allowed
@@ -49,18 +49,18 @@ slice-aggregate-allowed c = search needs
 -- there is a place for each state that the old book keeps
 room : (c : tie.After-kept) → c .kept .result ≤ length (c .kept .last .1 .0)
 room c =
-    let s = c .before .before .before .before .before .before in
+    let s = c .before .before .before .before .before .before .before in
     let most = kept-few (now (s .args .book)) in
     omega (arith, c .kept .ensures .0, most, few s, states s, c .kept .kept .1 .0)
 
 allowed-requires : tie.Need-allowed-requires
 allowed-requires c κs =
-    let s = c .before .before .before .before .before .before .before .before in
+    let s = c .before .before .before .before .before .before .before .before .before in
     (make-parts _ _ _ (ok s .make) .0, room (c .before .before))
 
 -- the allowed ones of them are left, at the front
 started : (c : tie.After-allowed)
-    → let a = c .before .before .before .before .before .before .before .before .before .args in
+    → let a = c .before .before .before .before .before .before .before .before .before .before .args in
     let list = c .allowed .last .1 .0 in
     (c .allowed .result ≤ length list)
     × (take (c .allowed .result) list ≡ filter (allowed (plantOf (now (a .plant)))) (bookKept (now (a .book))))
@@ -75,8 +75,8 @@ array-share-prefix-list c = started (c .before .before) .0
 mask-requires : tie.Need-mask-requires
 mask-requires c κs = search needs
 
-sub-book : tie.Need-sub-book
-sub-book c = and-le-l _ _
+sub-left : tie.Need-sub-left
+sub-left c = and-le-l _ _
 
 slice-aggregate-book : tie.Need-slice-aggregate-book
 slice-aggregate-book c = sym (length-take-le _ _ (started (c .before .before .before) .0))
@@ -84,24 +84,26 @@ slice-aggregate-book c = sym (length-take-le _ _ (started (c .before .before .be
 book-requires : tie.Need-book-requires
 book-requires c κs = search needs
 
--- the book written, where the plant is accepted
+-- the book written, where plant and index are accepted
 wrote : (c : tie.After-book)
     → let a = c .before .before .before .before .before .before .before .before .before .before .before .before .before
-    .before .args in
+    .before .before .args in
     let p = plantOf (now (a .plant)) in
     let new = withdrawnBook p (now (a .book)) (a .gone) in
-    (c .book .result ≡ pick (eqb (plantFault (now (a .plant))) 0) (length new) 0)
-    × (c .book .last .1 .1 .1 .0 ≡ pick (eqb (plantFault (now (a .plant))) 0) (over new (now (a .out))) (now (a .out)))
+    let good = accepts (a .indexed) (now (a .index)) (now (a .plant)) in
+    (c .book .result ≡ pick good (length new) 0)
+    × (c .book .last .1 .1 .1 .1 .0 ≡ pick good (over new (now (a .out))) (now (a .out)))
 wrote c =
     let m = c .before .before .before in
     let t = m .before .before in
-    let s = t .before .before .before .before .before .before .before .before .before in
+    let s = t .before .before .before .before .before .before .before .before .before .before in
     let a = s .args in
-    withdrawn-written (now (a .plant)) (now (a .book)) (a .gone) (now (a .out)) (now (a .drops)) _ _ (s .pre)
+    withdrawn-written (a .indexed) (now (a .index)) (now (a .plant)) (now (a .book)) (a .gone) (now (a .out))
+    (now (a .drops)) _ _ (s .pre)
     (started t .1) (m .mask .ensures) (c .book .ensures .0) (c .book .ensures .1)
 
-withdraw-requires : tie.Need-withdraw-requires
-withdraw-requires c κs = search needs
+number-requires : tie.Need-number-requires
+number-requires c κs = search needs
 
 refused-requires : tie.Need-refused-requires
 refused-requires c κs = search needs
@@ -116,17 +118,18 @@ returns c =
     let k = e .before .before .before in
     let w = wrote k in
     let s = k .before .before .before .before .before .before .before .before .before .before .before .before .before
-    .before in
+    .before .before in
     let a = s .args in
-    withdraw-none (now (a .plant)) (now (a .book)) (a .gone) (now (a .out)) (now (a .drops)) _ (s .pre) (w .0) (w .1) _
-    (e .if1 .taken) (c .refused .ensures) (n .withdraw .ensures)
+    withdraw-none (a .indexed) (now (a .index)) (now (a .plant)) (now (a .book)) (a .gone) (now (a .out))
+    (now (a .drops)) _ (s .pre) (w .0) (w .1) _
+    (e .if1 .taken) (c .refused .ensures) (n .number .ensures)
 
 cast-dropped : tie.Need-cast-dropped
 cast-dropped c = search needs
 
 -- the book written is no longer than its buffer
-within : (c : tie.After-book) → c .book .result ≤ length (c .book .last .1 .1 .1 .0)
-within c = omega (arith, c .book .kept .1 .1 .1 .0, written-fits _ _ _ (c .book .ensures .0))
+within : (c : tie.After-book) → c .book .result ≤ length (c .book .last .1 .1 .1 .1 .0)
+within c = omega (arith, c .book .kept .1 .1 .1 .1 .0, written-fits _ _ _ _ (c .book .ensures .0))
 
 slice-reshare-prefix-dropped : tie.Need-slice-reshare-prefix-dropped
 slice-reshare-prefix-dropped c = within (c .before .before .before)
@@ -150,9 +153,10 @@ returns-2 c =
     let k = e .before .before .before in
     let w = wrote k in
     let s = k .before .before .before .before .before .before .before .before .before .before .before .before .before
-    .before in
+    .before .before in
     let a = s .args in
-    withdraw-done (now (a .plant)) (now (a .book)) (a .gone) (now (a .out)) (now (a .drops)) _ (s .pre) (w .0) (w .1)
+    withdraw-done (a .indexed) (now (a .index)) (now (a .plant)) (now (a .book)) (a .gone) (now (a .out))
+    (now (a .drops)) _ (s .pre) (w .0) (w .1)
     (e .if1 .left) (d .dropped .ensures .0) (d .dropped .ensures .1)
 
 pub carry-out-spec : {M : Type 1} → statement M
@@ -164,11 +168,11 @@ carry-out-spec =
     slice-aggregate-allowed
     allowed-requires
     mask-requires
-    sub-book
+    sub-left
     array-share-prefix-list
     slice-aggregate-book
     book-requires
-    withdraw-requires
+    number-requires
     refused-requires
     same-length
     returns

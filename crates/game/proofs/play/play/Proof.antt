@@ -7,12 +7,14 @@ use borrow.Author.Needs.{needs}
 use denote.Ref.{now}
 use lib.ListN.{length, take, length-replicate}
 use lib.Seq.{length-take-le}
-use Rattle.statements.specs.Sets.{filter}
+use Rattle.statements.specs.Sets.{pick, filter}
+use Rattle.game.specs.Packed.{labelsIn, overAt, canIn}
 use Rattle.game.specs.Cuts.{waitsAll}
+use Rattle.game.specs.Draining.{drained}
 use Rattle.game.specs.Playing.{RoundIn, Rest, lastEight}
 use Rattle.game.proofs.Parts.{fresh-made}
 use Rattle.game.proofs.Plays.{Outset, standing, first-round, next-round, last-held, last-waits, rest-more}
-use Rattle.game.proofs.Plays.{MarkedIn, front-left}
+use Rattle.game.proofs.Plays.{MarkedIn, waits-on}
 use Rattle.game.proofs.play.play.Statement.{statement}
 use Rattle.game.proofs.play.play.Tie as tie
 
@@ -37,7 +39,7 @@ opened c = c .before .before .before .before .before .before .before .before .be
 abbrev entry : tie.At-loop Inv-loop μ-loop → tie.Start Inv-loop μ-loop
 entry c = opened (begun (c .before .before .before))
 
--- the round's beginning, seen from the seek, and the seek from the shrink
+-- the round's beginning, seen from the seek, and the seek from the narrow
 abbrev turn : tie.After-queue Inv-loop μ-loop → tie.At-loop Inv-loop μ-loop
 turn c = c .before .before .before .before .before
 
@@ -47,11 +49,11 @@ sought c = c .before .before .before .before .before .before
 abbrev figures : tie.After-queue3 Inv-loop μ-loop → tie.After-held Inv-loop μ-loop
 figures c = c .before .before .before .before .before .before
 
-abbrev shrunk : tie.After-queue4 Inv-loop μ-loop → tie.After-shrink Inv-loop μ-loop
-shrunk c = c .before .before .before .before .before .before
+abbrev narrowed : tie.After-queue4 Inv-loop μ-loop → tie.After-narrow Inv-loop μ-loop
+narrowed c = c .before .before .before .before .before .before
 
 -- what is left of a round's set, in the figures of the game
-left-is : (c : tie.After-shrink Inv-loop μ-loop)
+left-is : (c : tie.After-narrow Inv-loop μ-loop)
     → let h = figures (c .before) in
     let sk = sought h in
     let t = turn (sk .before) in
@@ -59,12 +61,16 @@ left-is : (c : tie.After-shrink Inv-loop μ-loop)
     let game = s .game in
     let set = take (t .loop .kept) (t .loop .list) in
     let test = waitsAll (sk .seek .last .1 .1 .1 .1 .1 .1 .0) (game .nodes) (game .goals) in
-    let left = c .shrink .last .1 .1 .1 in
-    (c .shrink .result ≡ length (filter test set))
-    × ((take (c .shrink .result) (left .0) ≡ filter test set)
+    let left = c .narrow .last .1 .1 .1 in
+    (c .narrow .result ≡ length (take (c .narrow .result) (left .0)))
+    × ((take (c .narrow .result) (left .0)
+    ≡ pick (game .eager)
+    (drained (canIn (now (s .graph)) (game .nodes) (game .groups) (game .positions))
+    (overAt (labelsIn (now (s .graph)) (game .nodes))) (filter test set))
+    (filter test set))
     × MarkedIn (now (s .graph)) (game .nodes) (game .groups) (game .positions) (game .goals)
-    (take (c .shrink .result) (left .0)) (left .1 .0) (left .1 .1 .0) (left .1 .1 .1 .0))
-left-is c = rw (figures (c .before) .held .ensures) at (c .shrink .ensures)
+    (take (c .narrow .result) (left .0)) (left .1 .0) (left .1 .1 .0) (left .1 .1 .1 .0))
+left-is c = rw (figures (c .before) .held .ensures) at (c .narrow .ensures)
 
 -- each goal is reached within it
 reached : (c : tie.After-seek Inv-loop μ-loop)
@@ -154,67 +160,65 @@ seek-requires c κs =
 held-requires : tie.Need-held-requires Inv-loop μ-loop
 held-requires c κs = search needs
 
-slice-aggregate-shrink : tie.Need-slice-aggregate-shrink Inv-loop μ-loop
-slice-aggregate-shrink c = search needs
+slice-aggregate-narrow : tie.Need-slice-aggregate-narrow Inv-loop μ-loop
+slice-aggregate-narrow c = search needs
 
-slice-aggregate-shrink-2 : tie.Need-slice-aggregate-shrink-2 Inv-loop μ-loop
-slice-aggregate-shrink-2 c = search needs
+slice-aggregate-narrow-2 : tie.Need-slice-aggregate-narrow-2 Inv-loop μ-loop
+slice-aggregate-narrow-2 c = search needs
 
-slice-aggregate-shrink-3 : tie.Need-slice-aggregate-shrink-3 Inv-loop μ-loop
-slice-aggregate-shrink-3 c = search needs
+slice-aggregate-narrow-3 : tie.Need-slice-aggregate-narrow-3 Inv-loop μ-loop
+slice-aggregate-narrow-3 c = search needs
 
-slice-aggregate-shrink-4 : tie.Need-slice-aggregate-shrink-4 Inv-loop μ-loop
-slice-aggregate-shrink-4 c = search needs
+slice-aggregate-narrow-4 : tie.Need-slice-aggregate-narrow-4 Inv-loop μ-loop
+slice-aggregate-narrow-4 c = search needs
 
-shrink-requires : tie.Need-shrink-requires Inv-loop μ-loop
-shrink-requires c κs =
+narrow-requires : tie.Need-narrow-requires Inv-loop μ-loop
+narrow-requires c κs =
     let sk = sought (figures c) in
     let t = turn (sk .before) in
     let i = t .loop .inv .0 in
     let s = entry t in
     let kept = sk .seek .kept .1 .1 .1 .1 .1 .1 in
-    rw (figures c .held .ensures) (
-      s .pre .0,
-      (
-        (i .room, i .round .sifted),
-        (
-          (
-            omega (arith, s .pre .1 .1 .1 .1 .1, untouched sk .long),
-            omega (arith, s .pre .0 .fits .few-nodes, kept .1 .0, i .queue-long),
-          ),
-          i .marked,
-        ),
-      ),
-    )
+    rw (figures c .held .ensures) (record {
+      ready = s .pre .0;
+      front = i .room;
+      sifted = i .round .sifted;
+      columns = omega (arith, s .pre .1 .1 .1 .1 .1, untouched sk .long);
+      room = omega (arith, s .pre .0 .fits .few-nodes, kept .1 .0, i .queue-long);
+      marked = i .marked;
+      goes = waits-on _ _ _ _ _ (s .pre .0) _ _ _ _ (reached sk) _ _ _ (i .marked);
+    })
 
 same-length : tie.Need-same-length Inv-loop μ-loop
 same-length c =
-    let d = shrunk (c .before) in
+    let d = narrowed (c .before) in
     let t = turn (sought (figures (d .before)) .before) in
-    d .shrink .kept .1 .1 .1 .1 .1 .1 .0
+    d .narrow .kept .1 .1 .1 .1 .1 .1 .0
     ∙ (t .loop .inv .1 ∙ begun (t .before .before .before) .begin .kept .1 .1 .1 .1 .1 .0)
 
 same-length-2 : tie.Need-same-length-2 Inv-loop μ-loop
 same-length-2 c =
-    let sk = sought (figures (shrunk (c .before) .before)) in
+    let sk = sought (figures (narrowed (c .before) .before)) in
     sk .seek .kept .1 .1 .1 .1 .1 .0 ∙ turn (sk .before) .loop .inv .2
 
 same-length-3 : tie.Need-same-length-3 Inv-loop μ-loop
-same-length-3 c = untouched (sought (figures (shrunk (c .before) .before))) .long
+same-length-3 c = untouched (sought (figures (narrowed (c .before) .before))) .long
 
 returns : tie.Need-returns Inv-loop μ-loop
 returns c =
-    let d = shrunk (c .before) in
+    let d = narrowed (c .before) in
     let sk = sought (figures (d .before)) in
     let t = turn (sk .before) in
     let s = entry t in
     let l = left-is d in
+    let eager = s .args .game .eager in
     let size = length-take-le (t .loop .kept) (t .loop .list) (t .loop .inv .0 .room) in
     let still : length (take (t .loop .kept) (t .loop .list))
-    ≤ length (take (d .shrink .result) (d .shrink .last .1 .1 .1 .0)) =
-    omega (arith, size, c .if1 .taken, l .0, ap length (l .1 .0)) in (
-      sym (ap length (last-held _ _ _ _ _ (s .pre .0) _ _ _ _ (reached sk) _ (l .1 .0) still) ∙ size),
-      last-waits _ _ _ _ _ (s .pre .0) _ _ _ _ (reached sk) _ (l .1 .0) still _ (s .pre .1 .1 .1 .1 .1) (untouched sk),
+    ≤ length (take (d .narrow .result) (d .narrow .last .1 .1 .1 .0)) =
+    omega (arith, size, c .if1 .taken, l .0) in (
+      sym (ap length (last-held _ _ _ _ _ (s .pre .0) _ _ _ _ (reached sk) eager _ (l .1 .0) still) ∙ size),
+      last-waits _ _ _ _ _ (s .pre .0) _ _ _ _ (reached sk) eager _ (l .1 .0) still _ (s .pre .1 .1 .1 .1 .1)
+          (untouched sk),
     )
 
 loop-less : tie.Need-loop-less Inv-loop μ-loop
@@ -222,19 +226,18 @@ loop-less c = c .if1 .left
 
 loop-again : tie.Need-loop-again Inv-loop μ-loop
 loop-again c =
-    let d = shrunk (c .before) in
+    let d = narrowed (c .before) in
     let sk = sought (figures (d .before)) in
     let t = turn (sk .before) in
     let s = entry t in
     let l = left-is d in
     let i = t .loop .inv in
-    let kept = d .shrink .kept .1 .1 .1 in
-    let sought-kept = sk .seek .kept .1 .1 .1 .1 .1 in
-    let fewer = front-left _ (t .loop .kept) _ (t .loop .list) (i .0 .room) (l .0) in (
+    let kept = d .narrow .kept .1 .1 .1 in
+    let sought-kept = sk .seek .kept .1 .1 .1 .1 .1 in (
       record {
-        room = omega (arith, fewer, kept .0, i .0 .room);
+        room = omega (arith, c .if1 .left, kept .0, i .0 .room);
         marked = l .1 .1;
-        round = next-round _ _ _ _ _ (s .pre .0) _ _ _ _ (reached sk) _ (l .1 .0);
+        round = next-round _ _ _ _ _ (s .pre .0) _ _ _ _ (reached sk) (s .args .game .eager) _ (l .1 .0);
         rest = untouched sk;
         scratch-long = omega (arith, sought-kept .0, i .0 .scratch-long);
         queue-long = kept .1 .1 .1 .1 .0 ∙ (sought-kept .1 .1 .0 ∙ i .0 .queue-long);
@@ -264,11 +267,11 @@ play-spec =
     slice-aggregate-seek-3
     seek-requires
     held-requires
-    slice-aggregate-shrink
-    slice-aggregate-shrink-2
-    slice-aggregate-shrink-3
-    slice-aggregate-shrink-4
-    shrink-requires
+    slice-aggregate-narrow
+    slice-aggregate-narrow-2
+    slice-aggregate-narrow-3
+    slice-aggregate-narrow-4
+    narrow-requires
     same-length
     same-length-2
     same-length-3
