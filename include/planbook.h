@@ -4,10 +4,10 @@
  * Link target/staticlib/libplanbook_c.a, made by `rt staticlib planbook_c`. There is no global state, no heap and no
  * thread: every call works on the memory it is lent and on less than 256 KiB of stack. Any bytes may be handed in.
  *
- * Plants and books are byte strings; docs/FORMATS.md describes them. There are two sorts. In a plant whose last header
- * number is 1 every run must settle: from some moment on all its states are settled, as bit 9 of their labels says. In
- * its books each row opens with a stage, and they are 2S bytes longer: 16 + 2S + 4SN. A plant with 0 there has books of
- * 16 + 4SN bytes, without stages. A book's length tells its sort.
+ * Plants, books and indexes are byte strings; docs/FORMATS.md describes them. There are two sorts. In a plant whose
+ * last header number is 1 every run must settle: from some moment on all its states are settled, as bit 9 of their
+ * labels says. In its books each row opens with a stage, and they are 2S bytes longer: 16 + 2S + 4SN. A plant with 0
+ * there has books of 16 + 4SN bytes, without stages. A book's length tells its sort. Indexes are of one sort.
  *
  * Every call returns a `number`: 0 when it was accepted, otherwise the first of these that applies, and then every
  * other field is 0 and no byte was written:
@@ -16,6 +16,7 @@
  *      offset or the length is wrong, the last header number is neither 0 nor 1, or plant_len differs from the length
  *   2  a label has a bit above bit N; bit 9 is free where the last header number is 1
  *   3  an arrow's state or move is out of range, or the arrows do not strictly ascend
+ *  10  the bytes lent as index are not exactly the plant's index: those that planbook_index writes for it, and no more
  *   4  the book is under 16 bytes, its S, U or N is out of range, an offset is wrong, the length is that of neither
  *      sort, its mask has a bit at U or above, or book_len differs from the length; in every call that takes a plant too
  *      also S, U, N or the sort unlike the plant's
@@ -25,7 +26,7 @@
  *   9  the list of masks has a length that is not a multiple of 4 or is above 64 bytes
  *   6  the mask given, or any mask of the list, has a bit at U or above
  *   7  the book buffer is under 16 + 4SN bytes, for a plant that must settle under 16 + 2S + 4SN, or the drop buffer, or
- *      that for the states gained, under 2S; preview has the drop buffer alone
+ *      that for the states gained, under 2S; preview has the drop buffer alone, and index a buffer of 8 + 2E bytes
  *   8  the state is not below S, or the goal not below N
  *
  * Buffers must not overlap: neither each other nor what is lent for reading. A buffer that is lent for writing keeps
@@ -42,19 +43,20 @@ extern "C" {
 #endif
 
 /*
- * The longest plant and the longest book, one with stages, what a list of states needs at most, and the longest list of
- * masks.
+ * The longest plant, the longest index and the longest book, one with stages, what a list of states needs at most, and
+ * the longest list of masks.
  */
 #define PLANBOOK_PLANT_MAX 51216u
+#define PLANBOOK_INDEX_MAX 16392u
 #define PLANBOOK_BOOK_MAX 34832u
 #define PLANBOOK_DROPS_MAX 2048u
 #define PLANBOOK_MASKS_MAX 64u
 
-/* What make, withdraw, withdraw_list and return answer. */
+/* What make, withdraw, withdraw_list, return and index answer. */
 typedef struct {
     uint32_t number; /* 0, or why it was refused */
-    uint32_t length; /* bytes of the book written, from the buffer's first byte on */
-    uint32_t drops;  /* states listed, two bytes each, from the list buffer's first byte on; 0 in make */
+    uint32_t length; /* bytes of the book or index written, from the buffer's first byte on */
+    uint32_t drops;  /* states listed, two bytes each, from the list buffer's first byte on; 0 in make and index */
 } planbook_answer;
 
 /* What preview answers. */
@@ -129,6 +131,29 @@ planbook_answer planbook_withdraw_list(const uint8_t *plant, size_t plant_len, c
  */
 planbook_answer planbook_return(const uint8_t *plant, size_t plant_len, const uint8_t *book, size_t book_len,
                                 uint32_t mask, uint8_t *out, size_t out_len, uint8_t *gained, size_t gained_len);
+
+/*
+ * Writes the plant's index, which is to be kept beside it: S, E, 8 and 8 + 2E, then the numbers of all arrows, from 0
+ * in the order in which the plant has them, ordered by the state they end in, and those into one state by their number;
+ * two bytes each, the low byte first. The answer's length is 8 + 2E. Labels, moves and masks have no part in it.
+ * Refusals 1, 2, 3, 7.
+ */
+planbook_answer planbook_index(const uint8_t *plant, size_t plant_len, uint8_t *index, size_t index_len);
+
+/*
+ * Makes the very book that planbook_make makes, by the plant's index: states are struck out from a worklist, with the
+ * arrows that end in each, where make reads all arrows again in every round. Refusals 1, 2, 3, 10, 6, 7.
+ */
+planbook_answer planbook_make_indexed(const uint8_t *plant, size_t plant_len, const uint8_t *index, size_t index_len,
+                                      uint32_t mask, uint8_t *book, size_t book_len);
+
+/*
+ * Withdraws the moves of a mask as planbook_withdraw does, with the same book and the same list of states, by the
+ * plant's index. Refusals 1, 2, 3, 10, 4, 5, 6, 7.
+ */
+planbook_answer planbook_withdraw_indexed(const uint8_t *plant, size_t plant_len, const uint8_t *index,
+                                          size_t index_len, const uint8_t *book, size_t book_len, uint32_t mask,
+                                          uint8_t *out, size_t out_len, uint8_t *drops, size_t drops_len);
 
 /*
  * What a lock-out would cost, before it is done: withdraws nothing and writes no book. The number dropped, the states

@@ -1,5 +1,5 @@
 /*
- * How much stack the calls take: all eight run on a stack of their own that is painted first, and what they overwrote
+ * How much stack the calls take: all eleven run on a stack of their own that is painted first, and what they overwrote
  * is counted, for a plant of each sort. Prints the figures; fails at 256 KiB or more. The plants are the largest there
  * are.
  */
@@ -13,6 +13,7 @@ enum { ROOM = 1 << 20, PAINT = 0xA5, STATES = 1024, ARROWS = 8192 };
 
 static uint8_t stack[ROOM], plant[PLANBOOK_PLANT_MAX], book[PLANBOOK_BOOK_MAX], out[PLANBOOK_BOOK_MAX];
 static uint8_t out_again[PLANBOOK_BOOK_MAX], drops[PLANBOOK_DROPS_MAX], masks[PLANBOOK_MASKS_MAX];
+static uint8_t arrows_by_end[PLANBOOK_INDEX_MAX];
 static ucontext_t main_context, call_context;
 static unsigned refusals;
 
@@ -51,6 +52,13 @@ static void calls(void) {
     planbook_answer back =
         planbook_return(plant, sizeof plant, out, none.length, 1, out_again, sizeof out_again, drops, sizeof drops);
     refusals += list.number + none.number + back.number;
+    planbook_answer index = planbook_index(plant, sizeof plant, arrows_by_end, sizeof arrows_by_end);
+    planbook_answer made_by = planbook_make_indexed(plant, sizeof plant, arrows_by_end, index.length, 0xFFFFFFFFu,
+                                                    out_again, sizeof out_again);
+    planbook_answer gone_by =
+        planbook_withdraw_indexed(plant, sizeof plant, arrows_by_end, index.length, out_again, made_by.length, 1, out,
+                                  sizeof out, drops, sizeof drops);
+    refusals += index.number + made_by.number + gone_by.number;
     refusals += planbook_consult(out, gone.length, 1023, 7).number + planbook_row(out, gone.length, 1023).number;
     refusals += planbook_moves(plant, sizeof plant, out, gone.length, 1023, 7).number;
 }

@@ -1,9 +1,9 @@
-//! The safe wrapper: the eight calls over slices, and a book that owns its bytes.
+//! The safe wrapper: the eleven calls over slices, and a book and an index that own their bytes.
 
 use std::sync::Arc;
 
 use crate::calls::{mask_bytes, Calls, Linked};
-use crate::sys::{Answer, LONGEST_BOOK, LONGEST_LIST};
+use crate::sys::{Answer, LONGEST_BOOK, LONGEST_INDEX, LONGEST_LIST};
 use crate::Refusal;
 
 /// Both places of an entry of a lost state, and its stage.
@@ -99,9 +99,7 @@ fn written(answer: Answer) -> Result<Withdrawn, Refusal> {
 /// assert_eq!(planbook::make_into(&plant, 0b111, &mut book[..47]), Err(planbook::Refusal::Buffer));
 /// ```
 pub fn make_into(plant: &[u8], mask: u32, book: &mut [u8]) -> Result<usize, Refusal> {
-    let answer = Linked.make(plant, mask, book);
-    accepted(answer.number)?;
-    Ok(answer.length as usize)
+    written(Linked.make(plant, mask, book)).map(|written| written.length)
 }
 
 /// Writes `book` without the moves of `mask` to the start of `out`, and the states that this drops to the start of
@@ -179,6 +177,62 @@ pub fn return_into(
 ) -> Result<Returned, Refusal> {
     let Withdrawn { length, drops: gained } = written(Linked.return_moves(plant, book, mask, out, gained))?;
     Ok(Returned { length, gained })
+}
+
+/// Writes the index of `plant` to the start of `index`, and answers its length, 8 + 2E bytes: a header of S, E, 8 and
+/// that length, and the numbers of all arrows, from 0 on, by the state they end in and then by number, as little-endian
+/// two-byte numbers. It is good for this plant alone, whichever moves are in service. A refused call writes nothing.
+///
+/// ```
+/// let plant = planbook::plants::strip().bytes();
+/// let mut index = [0; 24];
+/// assert_eq!(planbook::index_into(&plant, &mut index), Ok(24));
+/// let numbers: Vec<u8> = index.chunks(2).map(|number| number[0]).collect();
+/// assert_eq!(numbers, [4, 8, 8, 24, 5, 6, 0, 1, 7, 2, 3, 4]); // arrows 5 and 6 end in state 0
+/// assert_eq!(planbook::index_into(&plant, &mut index[..23]), Err(planbook::Refusal::Buffer));
+/// ```
+pub fn index_into(plant: &[u8], index: &mut [u8]) -> Result<usize, Refusal> {
+    written(Linked.index(plant, index)).map(|written| written.length)
+}
+
+/// Writes what [`make_into`] does, by the plant's index: each state that is struck out is looked at once, with the
+/// arrows that end in it. An index that is not exactly the plant's is refused.
+///
+/// ```
+/// let plant = planbook::plants::strip().bytes();
+/// let (mut index, mut book, mut plain) = ([0; 24], [0; 48], [0; 48]);
+/// planbook::index_into(&plant, &mut index)?;
+/// assert_eq!(planbook::make_indexed_into(&plant, &index, 0b111, &mut book)?, 48);
+/// planbook::make_into(&plant, 0b111, &mut plain)?;
+/// assert_eq!(book, plain);
+/// assert_eq!(planbook::make_indexed_into(&plant, &index[..23], 0b111, &mut book), Err(planbook::Refusal::Index));
+/// # Ok::<(), planbook::Refusal>(())
+/// ```
+pub fn make_indexed_into(plant: &[u8], index: &[u8], mask: u32, book: &mut [u8]) -> Result<usize, Refusal> {
+    written(Linked.make_indexed(plant, index, mask, book)).map(|written| written.length)
+}
+
+/// Writes what [`withdraw_into`] does, by the plant's index. An index that is not exactly the plant's is refused.
+///
+/// ```
+/// let plant = planbook::plants::strip().bytes();
+/// let (mut index, mut book, mut out, mut drops) = ([0; 24], [0; 48], [0; 48], [9; 8]);
+/// planbook::index_into(&plant, &mut index)?;
+/// planbook::make_indexed_into(&plant, &index, 0b111, &mut book)?;
+/// let written = planbook::withdraw_indexed_into(&plant, &index, &book, 0b001, &mut out, &mut drops)?;
+/// assert_eq!((written.length, written.drops), (48, 3));
+/// assert_eq!(drops, [0, 0, 1, 0, 2, 0, 9, 9]); // states 0, 1 and 2, and what stood past them
+/// # Ok::<(), planbook::Refusal>(())
+/// ```
+pub fn withdraw_indexed_into(
+    plant: &[u8],
+    index: &[u8],
+    book: &[u8],
+    mask: u32,
+    out: &mut [u8],
+    drops: &mut [u8],
+) -> Result<Withdrawn, Refusal> {
+    written(Linked.withdraw_indexed(plant, index, book, mask, out, drops))
 }
 
 /// What it would cost to withdraw the moves of `mask` from `book`: writes the states that this would drop to the start
@@ -282,6 +336,67 @@ pub fn good_moves(plant: &[u8], book: &[u8], state: u32, goal: u32) -> Result<u3
     Ok(answer.mask)
 }
 
+/// The index of a plant: its arrows by where they end. It holds its own bytes and the plant's, which all books that are
+/// made by it share. Build it once for a plant, and make and withdraw by it as often as wanted; another plant, or the
+/// same with an arrow more or less, needs another.
+///
+/// ```
+/// use planbook::{Book, Index};
+///
+/// let plant = planbook::plants::strip().bytes();
+/// let index = Index::of(&plant)?;
+/// let book = Book::make_indexed(&index, 0b111)?;
+/// assert_eq!(book, Book::make(&plant, 0b111)?); // the same book, byte for byte
+/// assert_eq!(book.withdraw_indexed(&index, 0b001)?, book.withdraw(0b001)?);
+/// # Ok::<(), planbook::Refusal>(())
+/// ```
+#[derive(Clone, Debug, PartialEq, Eq)]
+pub struct Index {
+    plant: Arc<[u8]>,
+    bytes: Vec<u8>,
+}
+
+impl Index {
+    /// Builds the index of a plant.
+    pub fn of(plant: &[u8]) -> Result<Index, Refusal> {
+        let mut bytes = vec![0; LONGEST_INDEX];
+        let length = index_into(plant, &mut bytes)?;
+        bytes.truncate(length);
+        Ok(Index { plant: plant.into(), bytes })
+    }
+
+    /// An index from bytes that were kept elsewhere, if they are exactly those of the plant's index.
+    ///
+    /// ```
+    /// use planbook::{Index, Refusal};
+    ///
+    /// let plant = planbook::plants::strip().bytes();
+    /// let index = Index::of(&plant)?;
+    /// assert_eq!(Index::from_bytes(&plant, index.bytes())?, index);
+    /// let another = planbook::plants::band().bytes();
+    /// assert_eq!(Index::from_bytes(&another, index.bytes()), Err(Refusal::Index));
+    /// # Ok::<(), Refusal>(())
+    /// ```
+    pub fn from_bytes(plant: &[u8], bytes: &[u8]) -> Result<Index, Refusal> {
+        // A making without room for a book checks plant and index, and solves nothing.
+        match make_indexed_into(plant, bytes, 0, &mut []) {
+            Err(Refusal::Buffer) => Ok(Index { plant: plant.into(), bytes: bytes.into() }),
+            Err(refusal) => Err(refusal),
+            Ok(_) => unreachable!("no book has 0 bytes"),
+        }
+    }
+
+    /// The index's bytes.
+    pub fn bytes(&self) -> &[u8] {
+        &self.bytes
+    }
+
+    /// The bytes of the plant that the index is for.
+    pub fn plant(&self) -> &[u8] {
+        &self.plant
+    }
+}
+
 /// A book that make, withdraw or return wrote for a plant; it holds its own bytes and the plant's, which all books that
 /// come of it share.
 ///
@@ -318,6 +433,14 @@ impl Book {
         Ok(Book { plant: plant.into(), bytes })
     }
 
+    /// The book that [`Book::make`] makes, by the index of a plant.
+    pub fn make_indexed(index: &Index, mask: u32) -> Result<Book, Refusal> {
+        let mut bytes = vec![0; LONGEST_BOOK];
+        let length = make_indexed_into(&index.plant, &index.bytes, mask, &mut bytes)?;
+        bytes.truncate(length);
+        Ok(Book { plant: index.plant.clone(), bytes })
+    }
+
     /// A book from bytes that were kept elsewhere, if the library accepts them as a book for the plant, which has stages
     /// exactly if the plant must settle. Whether they are those that make, withdraw or return would write is not looked
     /// at.
@@ -341,6 +464,11 @@ impl Book {
     /// Naming a move that is already out of service has no effect.
     pub fn withdraw(&self, mask: u32) -> Result<(Book, Vec<u16>), Refusal> {
         self.next(|out, list| Linked.withdraw(&self.plant, &self.bytes, mask, out, list))
+    }
+
+    /// What [`Book::withdraw`] gives, by the index of the book's plant; that of another plant is refused.
+    pub fn withdraw_indexed(&self, index: &Index, mask: u32) -> Result<(Book, Vec<u16>), Refusal> {
+        self.next(|out, list| Linked.withdraw_indexed(&self.plant, &index.bytes, &self.bytes, mask, out, list))
     }
 
     /// The book without the moves of the masks, withdrawn in turn, each time from the book of the one before; and the

@@ -1,11 +1,11 @@
-//! The eight calls over slices, with the C interface's answers: one trait that the proved library and each second
+//! The eleven calls over slices, with the C interface's answers: one trait that the proved library and each second
 //! solver implement, so that tests and benchmarks treat them alike.
 
 use crate::sys::{Advice, Answer, Cost, Mask, Part};
 
-/// A planner: make, withdraw and row as document 01 has them, and moves, preview, consult, the list of withdrawals and
-/// the return of moves as requests (i), (iv), (v), (vi) and (vii) of document 02 do, on raw bytes; for plants that must
-/// settle, as request (ix) has them, too.
+/// A planner: make, withdraw and row as document 01 has them, and moves, preview, consult, the list of withdrawals, the
+/// return of moves and the three calls for an index as requests (i), (iv), (v), (vi), (vii) and (viii) of document 02
+/// do, on raw bytes; for plants that must settle, as request (ix) has them, too.
 pub trait Calls {
     /// A short name for tables and messages.
     fn name(&self) -> &'static str;
@@ -26,6 +26,24 @@ pub trait Calls {
     /// in service in `book` together with these, and to the start of `gained` the states kept in that one and lost in
     /// `book`, as two-byte numbers.
     fn return_moves(&self, plant: &[u8], book: &[u8], mask: u32, out: &mut [u8], gained: &mut [u8]) -> Answer;
+
+    /// Writes the plant's index to the start of `index`: a header, and the numbers of all arrows by the state they end
+    /// in, and then by number.
+    fn index(&self, plant: &[u8], index: &mut [u8]) -> Answer;
+
+    /// Writes what [`Calls::make`] does, by the plant's index.
+    fn make_indexed(&self, plant: &[u8], index: &[u8], mask: u32, book: &mut [u8]) -> Answer;
+
+    /// Writes what [`Calls::withdraw`] does, by the plant's index.
+    fn withdraw_indexed(
+        &self,
+        plant: &[u8],
+        index: &[u8],
+        book: &[u8],
+        mask: u32,
+        out: &mut [u8],
+        drops: &mut [u8],
+    ) -> Answer;
 
     /// What it would cost to withdraw the moves of `mask`: writes to the start of `drops` what withdraw would, and no
     /// book.
@@ -117,6 +135,53 @@ impl Calls for Linked {
     fn return_moves(&self, plant: &[u8], book: &[u8], mask: u32, out: &mut [u8], gained: &mut [u8]) -> Answer {
         // SAFETY: this function asks for no more than that.
         unsafe { rewrite(crate::sys::planbook_return, plant, book, mask, out, gained) }
+    }
+
+    fn index(&self, plant: &[u8], index: &mut [u8]) -> Answer {
+        // SAFETY: each pointer and length is a slice's own, and `index` is borrowed alone.
+        unsafe { crate::sys::planbook_index(plant.as_ptr(), plant.len(), index.as_mut_ptr(), index.len()) }
+    }
+
+    fn make_indexed(&self, plant: &[u8], index: &[u8], mask: u32, book: &mut [u8]) -> Answer {
+        // SAFETY: each pointer and length is a slice's own, and `book` is borrowed alone.
+        unsafe {
+            crate::sys::planbook_make_indexed(
+                plant.as_ptr(),
+                plant.len(),
+                index.as_ptr(),
+                index.len(),
+                mask,
+                book.as_mut_ptr(),
+                book.len(),
+            )
+        }
+    }
+
+    fn withdraw_indexed(
+        &self,
+        plant: &[u8],
+        index: &[u8],
+        book: &[u8],
+        mask: u32,
+        out: &mut [u8],
+        drops: &mut [u8],
+    ) -> Answer {
+        // SAFETY: each pointer and length is a slice's own, and `out` and `drops` are each borrowed alone.
+        unsafe {
+            crate::sys::planbook_withdraw_indexed(
+                plant.as_ptr(),
+                plant.len(),
+                index.as_ptr(),
+                index.len(),
+                book.as_ptr(),
+                book.len(),
+                mask,
+                out.as_mut_ptr(),
+                out.len(),
+                drops.as_mut_ptr(),
+                drops.len(),
+            )
+        }
     }
 
     fn preview(&self, plant: &[u8], book: &[u8], mask: u32, drops: &mut [u8]) -> Cost {

@@ -8,7 +8,7 @@ use std::fmt::Debug;
 
 use crate::calls::Calls;
 use crate::second::format::{in_mask, number, read_masks, together, BookView, Plant, LOST};
-use crate::sys::{Advice, Answer, Cost, Mask, Part, LONGEST_BOOK, LONGEST_LIST};
+use crate::sys::{Advice, Answer, Cost, Mask, Part, LONGEST_BOOK, LONGEST_INDEX, LONGEST_LIST};
 
 pub mod rounds;
 
@@ -45,6 +45,12 @@ pub struct Comparison<'a> {
     gaining: u64,
     /// Such returns whose book has lost a state that the book handed in keeps, which is then one that nobody made.
     losing: u64,
+    /// Makes and withdrawals by an index that are accepted.
+    indexed: u64,
+    /// Such withdrawals that drop some states and keep others.
+    indexed_partial: u64,
+    /// Makes and withdrawals that are refused for their index.
+    misfits: u64,
     /// Books written that have stages and keep states.
     staged: u64,
     /// Such books with two stages or more.
@@ -105,6 +111,9 @@ impl<'a> Comparison<'a> {
             returns: 0,
             gaining: 0,
             losing: 0,
+            indexed: 0,
+            indexed_partial: 0,
+            misfits: 0,
             staged: 0,
             deep: 0,
             leaving: 0,
@@ -131,6 +140,12 @@ impl<'a> Comparison<'a> {
         [self.gaining, self.losing]
     }
 
+    /// How many makes and withdrawals by an index were accepted, how many of them dropped some states and kept others,
+    /// and how many were refused for their index.
+    pub fn indexes(&self) -> [u64; 3] {
+        [self.indexed, self.indexed_partial, self.misfits]
+    }
+
     /// How many books written have stages and keep states, how many of them have two stages or more, and how many sets
     /// of good moves lead to earlier stages alone.
     pub fn stages(&self) -> [u64; 3] {
@@ -142,13 +157,16 @@ impl<'a> Comparison<'a> {
         let [ours, second] = [self.ours, self.second].map(|planner| planner.name());
         let Comparison { calls, refused, mixed, partial, previewed, choices, passes, all_served, .. } = self;
         let Comparison { lists, late, repeated, returns, gaining, losing, staged, deep, leaving, .. } = self;
+        let Comparison { indexed, indexed_partial, misfits, .. } = self;
         format!(
             "{ours} and {second} do not differ in {calls} calls, of which {refused} are refused, {mixed} write a book \
              with kept and lost states, {partial} drop some states and keep others, {previewed} preview that, \
              {choices} find more than one good move, {passes} consults pass goals, {all_served} find all of several \
              goals served, {lists} are accepted lists of withdrawals, in {late} of which one after the first drops \
              states and in {repeated} two or more do, and {returns} are accepted returns, of which {gaining} list \
-             states and {losing} have lost a state that the book handed in keeps; {staged} write a book with stages \
+             states and {losing} have lost a state that the book handed in keeps; {indexed} make or withdraw by an \
+             index, {indexed_partial} of them drop some states and keep others, and {misfits} are refused for their \
+             index; {staged} write a book with stages \
              that keeps states, {deep} of them two stages or more, and {leaving} find good moves that leave a stage"
         )
     }
@@ -156,15 +174,96 @@ impl<'a> Comparison<'a> {
     /// Compares a make with a buffer of this length, and hands back the answer and the book, empty if refused.
     pub fn make(&mut self, plant: &[u8], mask: u32, length: usize) -> (Answer, Vec<u8>) {
         let input = || format!("make, mask {mask:#x}, buffer {length}, plant {}", hex(plant));
-        let before = plant.to_vec();
-        let mut books = [(); 2].map(|()| Buffer::new(length, self.calls));
-        let [ours, second] = &mut books;
-        let answers = [self.ours.make(plant, mask, ours.lent()), self.second.make(plant, mask, second.lent())];
-        self.same_answer(answers, &input);
-        self.same_bytes("plant", plant, &before, &input);
-        self.same_buffers("book buffer", books.each_ref(), answers[0].number, &input);
-        let [ours, _] = books;
-        self.written(answers[0], ours)
+        let (answer, book) = self.same_in_one("book buffer", [("plant", plant)], length, &input, |planner, book| {
+            planner.make(plant, mask, book)
+        });
+        self.written(answer, book)
+    }
+
+    /// Compares the building of an index in a buffer of this length, and hands back the answer and the index, empty if
+    /// refused. The same planner must make by it.
+    pub fn index(&mut self, plant: &[u8], length: usize) -> (Answer, Vec<u8>) {
+        let input = || format!("index, buffer {length}, plant {}", hex(plant));
+        let (answer, mut buffer) =
+            self.same_in_one("index buffer", [("plant", plant)], length, &input, |planner, index| {
+                planner.index(plant, index)
+            });
+        let index = buffer.lent()[..answer.length as usize].to_vec();
+        if answer.number == 0 {
+            let made = self.ours.make_indexed(plant, &index, 0, &mut []).number;
+            self.same_answer([made, 7], &|| alone(self.ours, "its make by that index", &input));
+        }
+        self.count(answer.number);
+        (answer, index)
+    }
+
+    /// Compares a make by an index with a buffer of this length, and hands back the answer and the book, empty if
+    /// refused. It must be what the same planner's make is, if the index is the one that it builds.
+    pub fn make_indexed(&mut self, plant: &[u8], index: &[u8], mask: u32, length: usize) -> (Answer, Vec<u8>) {
+        let input = || {
+            let (index, plant) = (hex(index), hex(plant));
+            format!("make by index, mask {mask:#x}, buffer {length}, index {index}, plant {plant}")
+        };
+        let lent = [("plant", plant), ("index", index)];
+        let (answer, book) = self.same_in_one("book buffer", lent, length, &input, |planner, book| {
+            planner.make_indexed(plant, index, mask, book)
+        });
+        let mut plain = Buffer::new(length, self.calls);
+        let expected = match self.index_fault(plant, index) {
+            0 => self.ours.make(plant, mask, plain.lent()),
+            number => Answer::refused(number),
+        };
+        let plainly = || alone(self.ours, "its make", &input);
+        self.same_answer([answer, expected], &plainly);
+        self.same_buffers("book buffer", [&book, &plain], answer.number, &plainly);
+        self.count_indexed(answer.number);
+        self.written(answer, book)
+    }
+
+    /// Compares a withdrawal by an index with buffers of these lengths, and hands back the answer and the book, empty
+    /// if refused. It must be what the same planner's withdrawal is, if the index is the one that it builds.
+    pub fn withdraw_indexed(
+        &mut self,
+        plant: &[u8],
+        index: &[u8],
+        book: &[u8],
+        mask: u32,
+        lengths: [usize; 2],
+    ) -> (Answer, Vec<u8>) {
+        let input = || {
+            let (index, both) = (hex(index), both(plant, book));
+            format!("withdraw by index, mask {mask:#x}, buffers {lengths:?}, index {index}, {both}")
+        };
+        let lent = [("plant", plant), ("index", index), ("book", book)];
+        let ours = self.same_from_both(lent, lengths, &input, |planner, out, list| {
+            planner.withdraw_indexed(plant, index, book, mask, out, list)
+        });
+        let plain = self.outcome(lengths, |out, list| match self.index_fault(plant, index) {
+            0 => self.ours.withdraw(plant, book, mask, out, list),
+            number => Answer::refused(number),
+        });
+        self.same_outcome(&ours, &plain, &|| alone(self.ours, "its withdrawal", &input));
+        self.count_indexed(ours.answer.number);
+        let partial = self.partial;
+        let written = self.count_withdrawal(ours);
+        self.indexed_partial += self.partial - partial;
+        written
+    }
+
+    /// The number for a plant and an index lent with it, told from the index that the same planner builds.
+    fn index_fault(&self, plant: &[u8], index: &[u8]) -> u32 {
+        let mut built = vec![0; LONGEST_INDEX];
+        match self.ours.index(plant, &mut built) {
+            Answer { number: 0, length, .. } if built[..length as usize] == *index => 0,
+            Answer { number: 0, .. } => 10,
+            refused => refused.number,
+        }
+    }
+
+    /// Counts what is to be counted of a make or a withdrawal by an index.
+    fn count_indexed(&mut self, number: u32) {
+        self.indexed += u64::from(number == 0);
+        self.misfits += u64::from(number == 10);
     }
 
     /// Compares a withdrawal with buffers of these lengths, and hands back the answer and the book, empty if refused.
@@ -176,7 +275,7 @@ impl<'a> Comparison<'a> {
     /// Compares a withdrawal, and does not count it.
     fn withdrawal(&self, plant: &[u8], book: &[u8], mask: u32, lengths: [usize; 2]) -> Outcome {
         let input = || format!("withdraw, mask {mask:#x}, buffers {lengths:?}, {}", both(plant, book));
-        self.same_from_both([plant, book], lengths, &input, |planner, out, list| {
+        self.same_from_both([("plant", plant), ("book", book)], lengths, &input, |planner, out, list| {
             planner.withdraw(plant, book, mask, out, list)
         })
     }
@@ -185,7 +284,8 @@ impl<'a> Comparison<'a> {
     /// refused. It must be what the single withdrawals in turn come to, and what one withdrawal of all the moves does.
     pub fn withdraw_list(&mut self, plant: &[u8], book: &[u8], masks: &[u8], lengths: [usize; 2]) -> (Answer, Vec<u8>) {
         let input = || format!("withdraw list, masks {}, buffers {lengths:?}, {}", hex(masks), both(plant, book));
-        let ours = self.same_from_both([plant, book, masks], lengths, &input, |planner, out, list| {
+        let lent = [("plant", plant), ("book", book), ("masks", masks)];
+        let ours = self.same_from_both(lent, lengths, &input, |planner, out, list| {
             planner.withdraw_list(plant, book, masks, out, list)
         });
         let at_once = || alone(self.ours, "its withdrawal of all these moves", &input);
@@ -255,7 +355,8 @@ impl<'a> Comparison<'a> {
     /// Compares a return, and does not count it.
     fn returning(&self, plant: &[u8], book: &[u8], mask: u32, lengths: [usize; 2]) -> Outcome {
         let input = || format!("return, mask {mask:#x}, buffers {lengths:?}, {}", both(plant, book));
-        let ours = self.same_from_both([plant, book], lengths, &input, |planner, out, list| {
+        let lent = [("plant", plant), ("book", book)];
+        let ours = self.same_from_both(lent, lengths, &input, |planner, out, list| {
             planner.return_moves(plant, book, mask, out, list)
         });
         let withdrawn = self.outcome(lengths, |out, list| self.ours.withdraw(plant, book, mask, out, list));
@@ -302,13 +403,14 @@ impl<'a> Comparison<'a> {
     /// gives.
     pub fn preview(&mut self, plant: &[u8], book: &[u8], mask: u32, length: usize) -> Cost {
         let input = || format!("preview, mask {mask:#x}, buffer {length}, {}", both(plant, book));
-        let before = [plant, book].map(<[u8]>::to_vec);
+        let lent = [("plant", plant), ("book", book)];
+        let before = bytes_lent(lent);
         let mut lists = [(); 2].map(|()| Buffer::new(length, self.calls));
         let [ours, second] = &mut lists;
         let costs =
             [self.ours.preview(plant, book, mask, ours.lent()), self.second.preview(plant, book, mask, second.lent())];
         self.same_answer(costs, &input);
-        self.only_read([plant, book], before, &input);
+        self.only_read(lent, before, &input);
         self.same_buffers("drop buffer", lists.each_ref(), costs[0].number, &input);
         let alone = || alone(self.ours, "its withdrawal", &input);
         let (withdrawn, list) = self.withdrawn(plant, book, mask, length);
@@ -364,10 +466,11 @@ impl<'a> Comparison<'a> {
     /// says to seek.
     pub fn moves(&mut self, plant: &[u8], book: &[u8], state: u32, goal: u32) -> Mask {
         let input = || format!("moves, state {state}, goal {goal}, {}", both(plant, book));
-        let before = [plant, book].map(<[u8]>::to_vec);
+        let lent = [("plant", plant), ("book", book)];
+        let before = bytes_lent(lent);
         let sets = [self.ours, self.second].map(|planner| planner.moves(plant, book, state, goal));
         self.same_answer(sets, &input);
-        self.only_read([plant, book], before, &input);
+        self.only_read(lent, before, &input);
         if sets[0].number == 0 {
             let Advice { seek, .. } = self.ours.consult(book, state, goal);
             let alone = || alone(self.ours, &format!("goal {seek}"), &input);
@@ -399,17 +502,37 @@ impl<'a> Comparison<'a> {
     /// it was; hands back what ours came to.
     fn same_from_both<const N: usize>(
         &self,
-        lent: [&[u8]; N],
+        lent: [(&str, &[u8]); N],
         lengths: [usize; 2],
         input: &dyn Fn() -> String,
         call: impl Fn(&dyn Calls, &mut [u8], &mut [u8]) -> Answer,
     ) -> Outcome {
-        let before = lent.map(<[u8]>::to_vec);
+        let before = bytes_lent(lent);
         let [ours, second] =
             [self.ours, self.second].map(|planner| self.outcome(lengths, |out, list| call(planner, out, list)));
         self.same_outcome(&ours, &second, input);
         self.only_read(lent, before, input);
         ours
+    }
+
+    /// The same for a call with one buffer of this length; hands back what ours answered and wrote.
+    fn same_in_one<const N: usize>(
+        &self,
+        what: &str,
+        lent: [(&str, &[u8]); N],
+        length: usize,
+        input: &dyn Fn() -> String,
+        call: impl Fn(&dyn Calls, &mut [u8]) -> Answer,
+    ) -> (Answer, Buffer) {
+        let before = bytes_lent(lent);
+        let mut buffers = [(); 2].map(|()| Buffer::new(length, self.calls));
+        let [ours, second] = &mut buffers;
+        let answers = [call(self.ours, ours.lent()), call(self.second, second.lent())];
+        self.same_answer(answers, input);
+        self.only_read(lent, before, input);
+        self.same_buffers(what, buffers.each_ref(), answers[0].number, input);
+        let [ours, _] = buffers;
+        (answers[0], ours)
     }
 
     /// Two calls have the same answer, and the same bytes in their buffers and beside them.
@@ -452,9 +575,9 @@ impl<'a> Comparison<'a> {
         (answer, book)
     }
 
-    /// The plant, the book and the masks, which were lent to read, are as they were.
-    fn only_read<const N: usize>(&self, lent: [&[u8]; N], before: [Vec<u8>; N], input: &dyn Fn() -> String) {
-        for ((what, lent), before) in ["plant", "book", "masks"].into_iter().zip(lent).zip(before) {
+    /// What was lent to read, with its names, is as it was.
+    fn only_read<const N: usize>(&self, lent: [(&str, &[u8]); N], before: [Vec<u8>; N], input: &dyn Fn() -> String) {
+        for ((what, lent), before) in lent.into_iter().zip(before) {
             self.same_bytes(what, lent, &before, input);
         }
     }
@@ -491,6 +614,11 @@ impl<'a> Comparison<'a> {
         self.calls += 1;
         self.refused += u64::from(number != 0);
     }
+}
+
+/// The bytes that are lent to read, without their names.
+fn bytes_lent<const N: usize>(lent: [(&str, &[u8]); N]) -> [Vec<u8>; N] {
+    lent.map(|(_, bytes)| bytes.to_vec())
 }
 
 /// K of a book.

@@ -9,13 +9,17 @@
 //! their labels say. Its books have *stages*: a kept state of stage 1 needs settled states alone, and one of a later
 //! stage passes through fewer states that are not settled than the stage says. See [`Book::stage`].
 //!
-//! With the feature `linked`, which is on by default, [`Book`] and the functions [`make_into`], [`withdraw_into`],
-//! [`withdraw_list_into`], [`return_into`], [`preview_into`], [`consult`], [`row`] and [`good_moves`] call the proved
-//! library. They take slices, answer a [`Result`] with a [`Refusal`], and need no `unsafe` in the caller's code.
+//! An [`Index`] lists a plant's arrows by where they end. Kept beside the plant, it lets make and withdraw strike
+//! states out without reading all arrows again in every round; the books are the same.
+//!
+//! With the feature `linked`, which is on by default, [`Book`], [`Index`] and the functions [`make_into`],
+//! [`withdraw_into`], [`withdraw_list_into`], [`return_into`], [`index_into`], [`make_indexed_into`],
+//! [`withdraw_indexed_into`], [`preview_into`], [`consult`], [`row`] and [`good_moves`] call the proved library. They
+//! take slices, answer a [`Result`] with a [`Refusal`], and need no `unsafe` in the caller's code.
 //!
 #![cfg_attr(feature = "linked", doc = "```")]
 #![cfg_attr(not(feature = "linked"), doc = "```ignore")]
-//! use planbook::{Advice, Book};
+//! use planbook::{Advice, Book, Index};
 //!
 //! // Strip plant P: 4 states, 3 moves, 2 goals, 8 arrows.
 //! let plant = planbook::plants::strip().bytes();
@@ -44,6 +48,11 @@
 //! assert_eq!((book.mask(), gained), (0b111, vec![]));
 //! assert_eq!(book.consult(1, 0)?, Advice::Move { action: 2, wait: 1, seek: 0 });
 //!
+//! // The plant's arrows by where they end, built once: makings and withdrawals by it come to the same books.
+//! let index = Index::of(&plant)?;
+//! assert_eq!(Book::make_indexed(&index, 0b111)?, book);
+//! assert_eq!(book.withdraw_indexed(&index, 0b001)?, book.withdraw(0b001)?);
+//!
 //! // A plant that must settle: state 0 has its way to goal 1 over state 1, which is not settled, to state 2.
 //! let book = Book::make(&planbook::plants::band().bytes(), 0b11)?;
 //! assert_eq!(book.stages().collect::<Vec<_>>(), [Some(2), Some(2), Some(1)]);
@@ -70,6 +79,8 @@ pub use refusal::Refusal;
 #[cfg(feature = "linked")]
 mod book;
 #[cfg(feature = "linked")]
-pub use book::{consult, good_moves, make_into, preview_into, return_into, row, withdraw_into, withdraw_list_into};
+pub use book::{consult, good_moves, index_into, make_indexed_into, make_into, preview_into, return_into, row};
 #[cfg(feature = "linked")]
-pub use book::{Advice, Book, Cost, Entry, Preview, Returned, Withdrawn};
+pub use book::{withdraw_indexed_into, withdraw_into, withdraw_list_into};
+#[cfg(feature = "linked")]
+pub use book::{Advice, Book, Cost, Entry, Index, Preview, Returned, Withdrawn};

@@ -210,6 +210,9 @@ pub enum Family {
     Chain,
     /// The chain with eight goals, and every state in all of them: each round has eight goals to force.
     ChainEight,
+    /// Every state in the one goal, each with an arrow to the next only by the one move, and the last one with none:
+    /// all are lost, one more in each round, so that there are as many rounds as states.
+    DeadEnd,
     /// Rungs that can be stayed on for ever, each of which has its way to the goals over the one below, and the lowest by
     /// a move of its own: without that move all are lost, one more rung in each round.
     Ladder,
@@ -226,7 +229,7 @@ pub enum Family {
 }
 
 /// All families.
-pub const FAMILIES: [Family; 13] = [
+pub const FAMILIES: [Family; 14] = [
     Family::Random,
     Family::Layered,
     Family::LayeredShuffled,
@@ -235,6 +238,7 @@ pub const FAMILIES: [Family; 13] = [
     Family::Dense,
     Family::Chain,
     Family::ChainEight,
+    Family::DeadEnd,
     Family::Ladder,
     Family::LadderEight,
     Family::LadderRing,
@@ -254,6 +258,7 @@ impl Family {
             Family::Dense => "dense",
             Family::Chain => "chain",
             Family::ChainEight => "chain-eight",
+            Family::DeadEnd => "dead-end",
             Family::Ladder => "ladder",
             Family::LadderEight => "ladder-eight",
             Family::LadderRing => "ladder-ring",
@@ -289,6 +294,7 @@ impl Family {
             Family::Dense => dense(states, random),
             Family::Chain => chain(states, 1),
             Family::ChainEight => chain(states, 8),
+            Family::DeadEnd => dead_end(states),
             Family::Ladder => ladder(states, 2),
             Family::LadderEight => ladder(states, 8),
             Family::LadderRing => ladder_ring(states),
@@ -464,14 +470,24 @@ fn dense(states: u16, random: &mut Random) -> Model {
 }
 
 fn chain(states: u16, goals: u16) -> Model {
-    let mut model = empty(states, 2, goals);
+    let mut model = one_after_another(states, 2, goals);
+    model.arrows.push([states - 1, 1, states - 1]);
+    model
+}
+
+fn dead_end(states: u16) -> Model {
+    one_after_another(states, 1, 1)
+}
+
+/// Every state in every goal, each with an arrow to the next, and the last one with none.
+fn one_after_another(states: u16, moves: u16, goals: u16) -> Model {
+    let mut model = empty(states, moves, goals);
     for state in 0..states {
         set_every_goal(&mut model, state);
         if state + 1 < states {
             model.arrows.push([state, 0, state + 1]);
         }
     }
-    model.arrows.push([states - 1, 1, states - 1]);
     model
 }
 

@@ -2,8 +2,8 @@
 
 use std::fmt;
 
-/// The numbers 1 to 9 that a call may return in the place of a result. A refused call writes nothing. Where several
-/// apply the lowest is returned, but for 9, which comes straight before 6.
+/// The numbers 1 to 10 that a call may return in the place of a result. A refused call writes nothing. Where several
+/// apply the lowest is returned, but for 9, which comes straight before 6, and 10, which comes straight after 3.
 #[derive(Clone, Copy, Debug, PartialEq, Eq, Hash)]
 #[non_exhaustive]
 pub enum Refusal {
@@ -25,12 +25,14 @@ pub enum Refusal {
     OutOfBook,
     /// 9: the list of masks is not whole, or too long.
     MaskList,
+    /// 10: the bytes lent as index are not those of the plant's index.
+    Index,
     /// A number that this version of the wrapper does not know.
     Other(u32),
 }
 
 /// The refusals by their number, from 1 on, with what was wrong, where, and what to do.
-const KNOWN: [(Refusal, &str); 9] = [
+const KNOWN: [(Refusal, &str); 10] = [
     (
         Refusal::PlantHeader,
         "the plant's header is not valid or its length is not the one its header says (plant, bytes 0 to 15): lend \
@@ -66,8 +68,8 @@ const KNOWN: [(Refusal, &str); 9] = [
     ),
     (
         Refusal::Buffer,
-        "a buffer is too short (book buffer or drop buffer): lend at least 16 + 4SN bytes for the book, 2S more if it \
-         has stages, and 2S for the states dropped or gained",
+        "a buffer is too short (book, drop or index buffer): lend at least 16 + 4SN bytes for the book, 2S more if it \
+         has stages, 2S for the states dropped or gained, and 8 + 2E for an index",
     ),
     (
         Refusal::OutOfBook,
@@ -77,6 +79,11 @@ const KNOWN: [(Refusal, &str); 9] = [
         Refusal::MaskList,
         "the list of masks is not whole, or too long (list of masks, its length): lend exactly 4 bytes for each mask, \
          and at most 16 masks",
+    ),
+    (
+        Refusal::Index,
+        "the bytes lent as index are not exactly the index of this plant (index, all of its 8 + 2E bytes): build it \
+         anew from the plant's bytes, and lend the whole of it",
     ),
 ];
 
@@ -98,6 +105,7 @@ impl Refusal {
             Refusal::Buffer => 7,
             Refusal::OutOfBook => 8,
             Refusal::MaskList => 9,
+            Refusal::Index => 10,
             Refusal::Other(number) => number,
         }
     }
@@ -128,7 +136,7 @@ mod tests {
         for number in 0..20 {
             let refusal = Refusal::from_number(number);
             assert_eq!(refusal.number(), number);
-            assert_eq!(matches!(refusal, Refusal::Other(_)), !(1..=9).contains(&number));
+            assert_eq!(matches!(refusal, Refusal::Other(_)), !(1..=10).contains(&number));
             assert!(refusal.to_string().starts_with(&format!("refused {number}: ")));
         }
     }

@@ -1,11 +1,14 @@
 //! The C interface as it is declared in `include/planbook.h`: the longest buffers, its answers, and with the feature
-//! `linked` its eight functions. The functions are unsafe to call; [`crate::make_into`] and its neighbours are the safe
-//! way.
+//! `linked` its eleven functions. The functions are unsafe to call; [`crate::make_into`] and its neighbours are the
+//! safe way.
 //!
 //! A refused answer has its number and 0 in every other field, and so has a lost one beside its `lost`.
 
 /// The longest book, one with stages: 16 + 2S + 4SN bytes for S 1,024 and N 8 (`PLANBOOK_BOOK_MAX` in C).
 pub const LONGEST_BOOK: usize = 16 + 2 * 1024 + 4 * 1024 * 8;
+
+/// The longest index: 8 + 2E bytes for E 8,192 (`PLANBOOK_INDEX_MAX` in C).
+pub const LONGEST_INDEX: usize = 8 + 2 * 8192;
 
 /// The most bytes of a list of states, dropped or gained: 2S for S 1,024 (`PLANBOOK_DROPS_MAX` in C).
 pub const LONGEST_LIST: usize = 2 * 1024;
@@ -13,15 +16,15 @@ pub const LONGEST_LIST: usize = 2 * 1024;
 /// The most bytes of a list of masks: 4 for each of 16 (`PLANBOOK_MASKS_MAX` in C).
 pub const LONGEST_MASKS: usize = 4 * 16;
 
-/// What make, withdraw, a list of withdrawals and return answer.
+/// What make, withdraw, a list of withdrawals, return and index answer.
 #[repr(C)]
 #[derive(Clone, Copy, Debug, Default, PartialEq, Eq)]
 pub struct Answer {
     /// 0, or the number of the refusal.
     pub number: u32,
-    /// How many bytes of the book buffer are the book.
+    /// How many bytes of the buffer are the book or the index.
     pub length: u32,
-    /// How many states the drop buffer lists: those dropped or, by return, those gained. Always 0 for make.
+    /// How many states the drop buffer lists: those dropped or, by return, those gained. Always 0 for make and index.
     pub drops: u32,
 }
 
@@ -146,6 +149,46 @@ extern "C" {
         out_len: usize,
         gained: *mut u8,
         gained_len: usize,
+    ) -> Answer;
+
+    /// Writes the index of a plant.
+    ///
+    /// # Safety
+    /// Each pointer is good for its length, to read (`plant`) or to write (`index`), and they do not overlap.
+    pub fn planbook_index(plant: *const u8, plant_len: usize, index: *mut u8, index_len: usize) -> Answer;
+
+    /// Writes the book of a plant with the moves of `mask` in service, by the plant's index.
+    ///
+    /// # Safety
+    /// Each pointer is good for its length, to read (`plant`, `index`) or to write (`book`), and `book` does not
+    /// overlap with any other.
+    pub fn planbook_make_indexed(
+        plant: *const u8,
+        plant_len: usize,
+        index: *const u8,
+        index_len: usize,
+        mask: u32,
+        book: *mut u8,
+        book_len: usize,
+    ) -> Answer;
+
+    /// Writes the book with the moves of `mask` withdrawn, and the states dropped, by the plant's index.
+    ///
+    /// # Safety
+    /// Each pointer is good for its length, to read (`plant`, `index`, `book`) or to write (`out`, `drops`), and those
+    /// written do not overlap with any other.
+    pub fn planbook_withdraw_indexed(
+        plant: *const u8,
+        plant_len: usize,
+        index: *const u8,
+        index_len: usize,
+        book: *const u8,
+        book_len: usize,
+        mask: u32,
+        out: *mut u8,
+        out_len: usize,
+        drops: *mut u8,
+        drops_len: usize,
     ) -> Answer;
 
     /// Writes the states that a withdrawal of the moves of `mask` would drop, and no book.

@@ -1,7 +1,8 @@
 #!/usr/bin/env bash
-# Instructions of the proved library for one make and one withdrawal of the highest move, as callgrind counts them, with
-# 512 and 1,024 states, and how they grow as an exponent: 1 is linear in the states, 2 quadratic. What is printed is the
-# mean over the plants of each family. Counts do not change with what else the machine does.
+# Instructions of the proved library for one make and one withdrawal of the highest move, for the building of an index
+# and for one make and one withdrawal by it, as callgrind counts them, with 512 and 1,024 states, and how they grow as an
+# exponent: 1 is linear in the states, 2 quadratic. What is printed is the mean over the plants of each family. Counts do
+# not change with what else the machine does.
 #
 #   tests/counts.sh [FAMILY...]
 #
@@ -15,13 +16,15 @@ bench=$(sed 's/.*"target_directory":"\([^"]*\)".*/\1/' <<<"$metadata")/release/b
 work=$(mktemp -d)
 trap 'rm -rf "$work"' EXIT
 
-# The instructions of a make and of a withdrawal, for a family and a number of states.
+calls=(make withdraw index make_indexed withdraw_indexed)
+
+# The instructions of each of these calls, for a family and a number of states.
 counts() {
     local plants
     plants=$(valgrind --quiet --tool=callgrind --callgrind-out-file="$work/out" \
         "$bench" --count "$1" "$2" "${PLANTS:-12}" 2>"$work/log") || { cat "$work/log" >&2; return 1; }
     callgrind_annotate --inclusive=yes --threshold=100 --show-percs=no "$work/out" >"$work/costs"
-    for call in make withdraw; do
+    for call in "${calls[@]}"; do
         awk -v name=":planbook_$call\$" -v plants="$plants" '
             $2 ~ name && !found { gsub(",", "", $1); printf "%.0f ", $1 / plants; found = 1 }
             END { if (!found) exit 1 }' "$work/costs"
@@ -33,14 +36,13 @@ if [ $# = 0 ]; then
 else
     families=("$@")
 fi
-printf '%-17s%14s%14s%9s%14s%14s%9s\n' family 'make 512' 'make 1024' growth 'withdraw 512' 'withdraw 1024' growth
+printf '%-17s%-18s%14s%14s%9s\n' family call 512 1024 growth
 for family in "${families[@]}"; do
     half=$(counts "$family" 512)
     whole=$(counts "$family" 1024)
-    awk -v family="$family" -v half="$half" -v whole="$whole" 'BEGIN {
+    awk -v family="$family" -v calls="${calls[*]}" -v half="$half" -v whole="$whole" 'BEGIN {
         split(half, a, " "); split(whole, b, " ")
-        printf "%-17s", family
-        for (i = 1; i <= 2; i++) printf "%14d%14d%9.2f", a[i], b[i], log(b[i] / a[i]) / log(2)
-        print ""
+        for (i = 1; i <= split(calls, name, " "); i++)
+            printf "%-17s%-18s%14d%14d%9.2f\n", family, name[i], a[i], b[i], log(b[i] / a[i]) / log(2)
     }'
 done

@@ -38,6 +38,9 @@ fn documents_01_and_02() {
     document::settle::withdrawals(&Linked);
     document::settle::lookups(&Linked);
     document::settle::refusals(&Linked);
+    document::index::indexes(&Linked);
+    document::index::books_by_index(&Linked);
+    document::index::refusals(&Linked);
 }
 
 /// A test for each promise.
@@ -55,6 +58,7 @@ keeps! {
     lists_come_to_the_withdrawals_in_turn
     returns_undo_withdrawals
     returns_come_to_a_making
+    calls_by_index_come_to_those_without
     lists_of_calls_come_to_a_making
     stages_come_to_plain_books
     stages_never_fall
@@ -77,9 +81,10 @@ fn random_rounds() {
     // In all rounds together, how many consults pass goals, and how many find all of several goals served; in how many
     // lists of withdrawals one after the first drops states, and in how many two or more do; and how many returns list
     // states, and how many have lost a state that the book handed in keeps.
-    // At last, how many books have stages and keep states, how many of these two stages or more, and how many sets of
-    // good moves leave a stage.
-    let (mut arrivals, mut lists, mut returns, mut stages) = ([0; 2], [0; 2], [0; 2], [0; 3]);
+    // How many makes and withdrawals by an index are accepted, how many of them drop some states and keep others, and
+    // how many are refused for their index. At last, how many books have stages and keep states, how many of these two
+    // stages or more, and how many sets of good moves leave a stage.
+    let (mut arrivals, mut lists, mut returns, mut indexes, mut stages) = ([0; 2], [0; 2], [0; 2], [0; 3], [0; 3]);
     for (name, round) in rounds::RANDOM_ROUNDS {
         let mut comparison = Comparison::new(&Linked, &Fast);
         let rounds = rounds::run(&mut comparison, round, SEED, calls);
@@ -87,11 +92,13 @@ fn random_rounds() {
         arrivals = std::array::from_fn(|at| arrivals[at] + comparison.arrivals()[at]);
         lists = std::array::from_fn(|at| lists[at] + comparison.lists()[at]);
         returns = std::array::from_fn(|at| returns[at] + comparison.returns()[at]);
+        indexes = std::array::from_fn(|at| indexes[at] + comparison.indexes()[at]);
         stages = std::array::from_fn(|at| stages[at] + comparison.stages()[at]);
     }
     assert!(arrivals.iter().all(|&many| many > calls / 20), "{arrivals:?} arrivals");
     assert!(lists.iter().all(|&many| many > calls / 100), "{lists:?} lists of withdrawals");
     assert!(returns.iter().all(|&many| many > calls / 50), "{returns:?} returns");
+    assert!(indexes.iter().all(|&many| many > calls / 100), "{indexes:?} by an index");
     assert!(stages.iter().all(|&many| many > calls / 20), "{stages:?} with stages");
 }
 

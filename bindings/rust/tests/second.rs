@@ -8,8 +8,9 @@ mod promises;
 use planbook::calls::{mask_bytes, Calls};
 use planbook::compare::{rounds, Comparison};
 use planbook::plants::{self, Family, Model, Random, FAMILIES, WAYS_TO_SETTLE};
-use planbook::second::format::{BookView, Plant};
+use planbook::second::format::{index_bytes, number, read_index, BookView, Plant};
 use planbook::second::{effort, Brute, Fast, Plain};
+use planbook::Refusal;
 
 #[test]
 fn marked_examples() {
@@ -25,6 +26,7 @@ fn marked_examples() {
         document::settle::rows(planner);
         document::settle::withdrawals(planner);
         document::settle::lookups(planner);
+        document::index::indexes(planner);
     }
 }
 
@@ -92,7 +94,42 @@ fn refusals_and_limits() {
         document::good_moves_of_the_longest(planner);
         document::settle::chains(planner);
         document::settle::refusals(planner);
+        document::index::books_by_index(planner);
+        document::index::refusals(planner);
     }
+}
+
+/// What is taken for an index is what is built, though that is sorted and this is not: each bit of small ones changed,
+/// arrows exchanged, and other bytes.
+#[test]
+fn an_index_is_read_as_it_is_built() {
+    let mut refused = 0;
+    for seed in 0..300 {
+        let random = &mut Random::new(seed);
+        let plant = Plant::read(&plants::tiny(random).bytes()).expect("a plant");
+        let right = index_bytes(&plant);
+        let order: Vec<u16> = (0..plant.arrows.len()).map(|at| number(&right, 8 + 2 * at)).collect();
+        assert_eq!(read_index(&right, &plant), Ok(order));
+        let mut others: Vec<Vec<u8>> = (0..8 * right.len())
+            .map(|bit| {
+                let mut other = right.clone();
+                other[bit / 8] ^= 1 << (bit % 8);
+                other
+            })
+            .collect();
+        others.extend((4..right.len() / 2).flat_map(|one| (4..one).map(move |two| (one, two))).map(|(one, two)| {
+            let mut other = right.clone();
+            (0..2).for_each(|at| other.swap(2 * one + at, 2 * two + at));
+            other
+        }));
+        others.extend((0..right.len()).map(|length| right[..length].to_vec()));
+        others.push([&right[..], &[0]].concat());
+        for other in others {
+            assert_eq!(read_index(&other, &plant), Err(Refusal::Index), "{other:?} for {right:?}");
+            refused += 1;
+        }
+    }
+    println!("{refused} are not the index");
 }
 
 #[test]
@@ -102,6 +139,7 @@ fn promises() {
     promises::lists_come_to_the_withdrawals_in_turn(&Fast);
     promises::returns_undo_withdrawals(&Fast);
     promises::returns_come_to_a_making(&Fast);
+    promises::calls_by_index_come_to_those_without(&Fast);
     promises::lists_of_calls_come_to_a_making(&Fast);
     promises::stages_come_to_plain_books(&Fast);
     promises::stages_never_fall(&Fast);
@@ -281,4 +319,6 @@ fn sweeps_and_worklist_agree_in_every_round() {
     assert!(passes > 5_000 && all_served > 2_000 && late > 800 && repeated > 300);
     let [gaining, losing] = comparison.returns();
     assert!(gaining > 2_000 && losing > 1_500);
+    let [indexed, partial, misfits] = comparison.indexes();
+    assert!(indexed > 10_000 && partial > 300 && misfits > 50_000);
 }

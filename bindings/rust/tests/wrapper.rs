@@ -2,8 +2,9 @@
 
 #![deny(warnings)]
 
-use planbook::{consult, good_moves, make_into, plants, preview_into, return_into, row, withdraw_into};
-use planbook::{withdraw_list_into, Advice, Book, Cost, Entry, Preview, Refusal, Returned, Withdrawn};
+use planbook::{consult, good_moves, index_into, make_indexed_into, make_into, plants, preview_into, return_into};
+use planbook::{row, withdraw_indexed_into, withdraw_into, withdraw_list_into};
+use planbook::{Advice, Book, Cost, Entry, Index, Preview, Refusal, Returned, Withdrawn};
 
 #[test]
 fn a_book_owns_its_bytes_and_the_plant() {
@@ -188,6 +189,50 @@ fn moves_come_back_in_service() {
 }
 
 #[test]
+fn books_are_made_and_withdrawn_by_an_index() {
+    let plant = plants::strip().bytes();
+    let index = Index::of(&plant).expect("P is a plant");
+    assert_eq!((index.plant(), index.bytes().len()), (&plant[..], 24));
+    assert_eq!(Index::from_bytes(&plant, index.bytes()), Ok(index.clone()));
+    assert_eq!(Index::from_bytes(&plant, &index.bytes()[..23]), Err(Refusal::Index));
+    assert_eq!(Index::from_bytes(&plant, &[index.bytes(), &[0]].concat()), Err(Refusal::Index));
+    assert_eq!(Index::from_bytes(&plant[1..], index.bytes()), Err(Refusal::PlantHeader));
+    assert_eq!(Index::of(&changed(&plant, 16, 8)), Err(Refusal::PlantLabel));
+
+    let m1 = Book::make_indexed(&index, 7).expect("P is a plant");
+    assert_eq!((&m1, m1.plant()), (&Book::make(&plant, 7).expect("P is a plant"), &plant[..]));
+    for mask in 0..8 {
+        assert_eq!(m1.withdraw_indexed(&index, mask), m1.withdraw(mask), "mask {mask}");
+        assert_eq!(Book::make_indexed(&index, mask), Book::make(&plant, mask), "mask {mask}");
+    }
+    assert_eq!(m1.withdraw_indexed(&index, 1).map(|(_, dropped)| dropped), Ok(vec![0, 1, 2]));
+    assert_eq!(m9_book(&m1).withdraw_indexed(&index, 0), m9_book(&m1).withdraw(0));
+    assert_eq!(
+        (Book::make_indexed(&index, 8), m1.withdraw_indexed(&index, 8)),
+        (Err(Refusal::Mask), Err(Refusal::Mask))
+    );
+
+    // A plant that must settle, and the index of another plant.
+    let band = Index::of(&plants::band().bytes()).expect("a plant");
+    let book = Book::make_indexed(&band, 3).expect("a plant");
+    assert_eq!(Ok(&book), Book::make(band.plant(), 3).as_ref());
+    assert_eq!(book.withdraw_indexed(&band, 1), book.withdraw(1));
+    assert_eq!(m1.withdraw_indexed(&band, 1), Err(Refusal::Index));
+
+    // 16 moves, from the highest down.
+    let model = plants::Family::Random.build(200, 3);
+    let index = Index::of(&model.bytes()).expect("a plant");
+    let mut book = Book::make_indexed(&index, model.every_move()).expect("a plant");
+    for action in (0..16).rev() {
+        let next = book.withdraw_indexed(&index, 1 << action);
+        assert_eq!(next, book.withdraw(1 << action), "move {action}");
+        book = next.expect("a move of the plant").0;
+    }
+    let longest = Index::of(&plants::longest().bytes()).expect("a plant");
+    assert_eq!(longest.bytes().len(), planbook::sys::LONGEST_INDEX);
+}
+
+#[test]
 fn a_book_shows_what_a_lock_out_costs() {
     let plant = plants::strip().bytes();
     let book = Book::make(&plant, 7).expect("P is a plant");
@@ -299,4 +344,35 @@ fn every_refusal_of_a_return_has_its_name() {
     assert_eq!(gained, [0, 0, 1, 0, 2, 0, 9, 9]);
     assert_eq!(make_into(&plant, 7, &mut book), Ok(48));
     assert_eq!(out, book);
+}
+
+#[test]
+fn every_refusal_by_an_index_has_its_name() {
+    let plant = plants::strip().bytes();
+    let (mut index, mut book, mut out, mut drops) = ([0; 24], [0; 48], [0; 48], [0; 8]);
+    assert_eq!(index_into(&plant[..71], &mut index), Err(Refusal::PlantHeader));
+    assert_eq!(index_into(&changed(&plant, 16, 8), &mut index), Err(Refusal::PlantLabel));
+    assert_eq!(index_into(&changed(&plant, 70, 4), &mut index), Err(Refusal::PlantArrow));
+    assert_eq!(index_into(&plant, &mut index[..23]), Err(Refusal::Buffer));
+    assert_eq!(index, [0; 24]);
+    assert_eq!(index_into(&plant, &mut index), Ok(24));
+    assert_eq!(make_indexed_into(&plant, &index, 7, &mut book), Ok(48));
+    let mut withdraw = |plant: &[u8], index: &[u8], book: &[u8], mask, lengths: [usize; 2]| {
+        withdraw_indexed_into(plant, index, book, mask, &mut out[..lengths[0]], &mut drops[..lengths[1]])
+    };
+    // Each with faults that come after it: another index, book and mask that are bad, and buffers too short.
+    let (other, bad_book) = (changed(&index, 23, 1), changed(&book, 12, 15));
+    assert_eq!(withdraw(&plant[..71], &other, &bad_book, 8, [47, 7]), Err(Refusal::PlantHeader));
+    assert_eq!(withdraw(&changed(&plant, 16, 8), &other, &bad_book, 8, [47, 7]), Err(Refusal::PlantLabel));
+    assert_eq!(withdraw(&changed(&plant, 70, 4), &other, &bad_book, 8, [47, 7]), Err(Refusal::PlantArrow));
+    assert_eq!(withdraw(&plant, &other, &bad_book, 8, [47, 7]), Err(Refusal::Index));
+    assert_eq!(withdraw(&plant, &index, &bad_book, 8, [47, 7]), Err(Refusal::BookHeader));
+    assert_eq!(withdraw(&plant, &index, &changed(&book, 6, 2), 8, [47, 7]), Err(Refusal::BookRow));
+    assert_eq!(withdraw(&plant, &index, &book, 8, [47, 7]), Err(Refusal::Mask));
+    assert_eq!(withdraw(&plant, &index, &book, 1, [47, 8]), Err(Refusal::Buffer));
+    assert_eq!(withdraw(&plant, &index, &book, 1, [48, 7]), Err(Refusal::Buffer));
+    assert_eq!(withdraw(&plant, &index, &book, 1, [48, 8]), Ok(Withdrawn { length: 48, drops: 3 }));
+    assert_eq!(make_indexed_into(&plant, &other, 8, &mut book[..47]), Err(Refusal::Index));
+    assert_eq!(make_indexed_into(&plant, &index, 8, &mut book[..47]), Err(Refusal::Mask));
+    assert_eq!(make_indexed_into(&plant, &index, 7, &mut book[..47]), Err(Refusal::Buffer));
 }

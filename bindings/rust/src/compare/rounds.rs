@@ -6,10 +6,12 @@ use crate::calls::mask_bytes;
 use crate::plants::{self, bytes_of, Model, Random, FAMILIES};
 use crate::second::format::{number, read_masks, together};
 use crate::sys::{Answer, LONGEST_BOOK, LONGEST_LIST};
+use indexes::{index_of, mostly_right};
 use lists::{any_list, masks_in_turn};
 use returns::moves_back;
 
 mod faults;
+mod indexes;
 mod lists;
 mod returns;
 mod stages;
@@ -18,10 +20,11 @@ mod stages;
 pub type Round = fn(&mut Comparison, &mut Random);
 
 /// The random rounds, with their names.
-pub const RANDOM_ROUNDS: [(&str, Round); 10] = [
+pub const RANDOM_ROUNDS: [(&str, Round); 11] = [
     ("lists of calls", list_of_calls),
     ("lists of withdrawals", lists::lists_of_withdrawals),
     ("returns", returns::returns),
+    ("indexes", indexes::indexes),
     ("good moves", good_moves),
     ("stages", stages::stages),
     ("invented books", invented_book),
@@ -32,7 +35,7 @@ pub const RANDOM_ROUNDS: [(&str, Round); 10] = [
 ];
 
 /// The rounds that leave nothing to chance.
-pub const EXHAUSTIVE_ROUNDS: [fn(&mut Comparison); 14] = [
+pub const EXHAUSTIVE_ROUNDS: [fn(&mut Comparison); 18] = [
     single_bytes,
     other_lengths,
     every_mask,
@@ -44,6 +47,10 @@ pub const EXHAUSTIVE_ROUNDS: [fn(&mut Comparison); 14] = [
     returns::every_round_trip,
     returns::every_combination_of_refusals,
     returns::longest,
+    indexes::every_byte,
+    indexes::every_length,
+    indexes::every_order,
+    indexes::every_combination_of_refusals,
     stages::every_stage,
     stages::every_other_sort,
     largest,
@@ -184,9 +191,10 @@ fn any_goal(comparison: &mut Comparison, plant: &[u8], book: &[u8], model: &Mode
     comparison.moves(plant, book, state, goal);
 }
 
-/// A list of makes, withdrawals, lists of withdrawals and returns on one plant, refused ones among them, and a preview
-/// of each single withdrawal. The standing book is always the one made afresh for the moves in service, and whether a
-/// call is refused is told from its masks and buffers alone.
+/// A list of makes, withdrawals, lists of withdrawals and returns on one plant, some makes and withdrawals by an index
+/// that is mostly right, refused ones among them, and a preview of each single withdrawal. The standing book is
+/// always the one made afresh for the moves in service, and whether a call is refused is told from its masks, index and
+/// buffers alone.
 fn list_of_calls(comparison: &mut Comparison, random: &mut Random) {
     let model = any_plant(random);
     let plant = model.bytes();
@@ -194,10 +202,12 @@ fn list_of_calls(comparison: &mut Comparison, random: &mut Random) {
     let (_, book) = comparison.make(&plant, in_service, model.book_length());
     let mut standing = Standing { model, plant, book, in_service, last: None };
     for _ in 0..random.from_to(0, 12) {
-        match random.below(10) {
+        match random.below(13) {
             0 => standing.make(comparison, random),
             1 => standing.withdraw_list(comparison, random),
-            2..=5 => standing.return_moves(comparison, random),
+            2 => standing.make_indexed(comparison, random),
+            3..=4 => standing.withdraw_indexed(comparison, random),
+            5..=8 => standing.return_moves(comparison, random),
             _ => standing.withdraw(comparison, random),
         }
         let Standing { model, plant, book, in_service, .. } = &standing;
@@ -242,6 +252,22 @@ impl Standing {
         self.take_withdrawal(withdrawn, self.told(mask, lengths), mask);
     }
 
+    fn make_indexed(&mut self, comparison: &mut Comparison, random: &mut Random) {
+        let index = mostly_right(&self.model, random);
+        let mask = or_too_high(many_moves(&self.model, random), random);
+        let length = any_length(self.model.book_length(), random);
+        let made = comparison.make_indexed(&self.plant, &index, mask, length);
+        self.take(made, self.told_by(&index, mask, [length, self.model.list_length()]), mask);
+    }
+
+    fn withdraw_indexed(&mut self, comparison: &mut Comparison, random: &mut Random) {
+        let index = mostly_right(&self.model, random);
+        let mask = or_too_high(few_moves(&self.model, random), random);
+        let lengths = self.any_lengths(random);
+        let withdrawn = comparison.withdraw_indexed(&self.plant, &index, &self.book, mask, lengths);
+        self.take_withdrawal(withdrawn, self.told_by(&index, mask, lengths), mask);
+    }
+
     fn withdraw_list(&mut self, comparison: &mut Comparison, random: &mut Random) {
         let masks = any_list(&self.model, random);
         let lengths = self.any_lengths(random);
@@ -277,6 +303,14 @@ impl Standing {
             (true, _) => 6,
             (false, true) => 7,
             (false, false) => 0,
+        }
+    }
+
+    /// The number of a call by an index.
+    fn told_by(&self, index: &[u8], moves: u32, lengths: [usize; 2]) -> u32 {
+        match index == index_of(&self.plant) {
+            true => self.told(moves, lengths),
+            false => 10,
         }
     }
 
@@ -391,9 +425,10 @@ pub fn withdrawals_from_invented(comparison: &mut Comparison, model: &Model, ran
     }
 }
 
-/// The plant made with all moves in service, and then one more withdrawn and previewed each time, from the highest
-/// down; consults and good moves in each of these books; the highest move returned to the first of them; and, unless
-/// there are very many states, the upper half of the moves withdrawn by one list and returned at once.
+/// The plant made with all moves in service, also by its index, and then one more withdrawn and previewed each time,
+/// from the highest down, every other one by the index as well; consults and good moves in each of these books; the
+/// highest move returned to the first of them; and, unless there are very many states, the upper half of the moves
+/// withdrawn by one list and returned at once.
 pub fn each_move_in_turn(comparison: &mut Comparison, model: &Model) {
     let plant = model.bytes();
     let lengths = lengths_of(model);
@@ -406,8 +441,13 @@ pub fn each_move_in_turn(comparison: &mut Comparison, model: &Model) {
         comparison.return_moves(&plant, &rest, together(&masks), lengths);
     }
     comparison.there_and_back(&plant, &book, model.highest_move(), lengths);
+    let (_, index) = comparison.index(&plant, index_of(&plant).len());
+    comparison.make_indexed(&plant, &index, model.every_move(), lengths[0]);
     for action in (0..model.moves).rev() {
         every_goal(comparison, &plant, &book, model, action.into());
+        if (model.moves - action) % 2 == 1 {
+            comparison.withdraw_indexed(&plant, &index, &book, 1 << action, lengths);
+        }
         book = withdraw_and_preview(comparison, &plant, &book, 1 << action, lengths).1;
         comparison.made_afresh(&plant, (1 << action) - 1, &book);
     }
@@ -442,20 +482,24 @@ fn change_sort(plant: &mut [u8], random: &mut Random) {
     }
 }
 
-/// Plants with some bytes damaged, made of, withdrawn and previewed with, by lists too, returned and looked up with.
+/// Plants with some bytes damaged, made of, withdrawn and previewed with, by lists and by the index of the whole plant
+/// too, returned and looked up with.
 fn damaged_plant(comparison: &mut Comparison, random: &mut Random) {
     let model = tiny_plant(random);
-    let book = invent_book(&model, random);
+    let (book, index) = (invent_book(&model, random), index_of(&model.bytes()));
     for _ in 0..8 {
         let mut plant = model.bytes();
-        match random.once_in(3) {
+        match random.once_in(2) {
             true => change_sort(&mut plant, random),
             false => damage(&mut plant, random),
         }
         let mask = or_too_high(many_moves(&model, random), random);
         comparison.make(&plant, mask, any_length(book.len(), random));
+        comparison.make_indexed(&plant, &index, mask, any_length(book.len(), random));
+        comparison.index(&plant, any_length(index.len(), random));
         let mask = or_too_high(few_moves(&model, random), random);
         let lengths = [any_length(book.len(), random), model.list_length()];
+        comparison.withdraw_indexed(&plant, &index, &book, mask, lengths);
         withdraw_and_preview(comparison, &plant, &book, mask, lengths);
         comparison.withdraw_list(&plant, &book, &any_list(&model, random), lengths);
         comparison.return_moves(&plant, &book, mask, lengths);
@@ -463,10 +507,12 @@ fn damaged_plant(comparison: &mut Comparison, random: &mut Random) {
     }
 }
 
-/// Books with some bytes damaged, withdrawn and previewed from, by lists too, returned to and looked up in.
+/// Books with some bytes damaged, withdrawn and previewed from, by lists and by an index too, returned to and looked up
+/// in.
 fn damaged_book(comparison: &mut Comparison, random: &mut Random) {
     let model = tiny_plant(random);
     let plant = model.bytes();
+    let index = mostly_right(&model, random);
     let (_, whole) = comparison.make(&plant, model.every_move(), model.book_length());
     for _ in 0..8 {
         let mut book = if random.once_in(2) { whole.clone() } else { invent_book(&model, random) };
@@ -474,6 +520,7 @@ fn damaged_book(comparison: &mut Comparison, random: &mut Random) {
         let mask = or_too_high(few_moves(&model, random), random);
         let lengths = [any_length(whole.len(), random), model.list_length()];
         withdraw_and_preview(comparison, &plant, &book, mask, lengths);
+        comparison.withdraw_indexed(&plant, &index, &book, mask, lengths);
         comparison.withdraw_list(&plant, &book, &any_list(&model, random), lengths);
         comparison.return_moves(&plant, &book, mask, lengths);
         look_up(comparison, &plant, &book, &model, random);
@@ -619,13 +666,15 @@ fn look_everywhere(comparison: &mut Comparison, plant: &[u8], book: &[u8], model
     }
 }
 
+/// The bytes cut off at a length, or with bytes of 0 added up to it.
+fn of_length(bytes: &[u8], length: usize) -> Vec<u8> {
+    let mut bytes = bytes.to_vec();
+    bytes.resize(length, 0);
+    bytes
+}
+
 /// A small plant of either sort and its book cut short everywhere, and with bytes added.
 fn other_lengths(comparison: &mut Comparison) {
-    let of_length = |bytes: &[u8], length: usize| {
-        let mut bytes = bytes.to_vec();
-        bytes.resize(length, 0);
-        bytes
-    };
     for model in both_sorts() {
         let (plant, book) = with_book(comparison, &model);
         let (lengths, highest) = (lengths_of(&model), model.highest_move());
@@ -715,6 +764,9 @@ fn every_call_once(comparison: &mut Comparison, plant: &[u8], mask: u32) {
     comparison.return_moves(plant, &rest, mask & 1, [1 << 16, 1 << 12]);
     let masks: Vec<u32> = (0..16).map(|action| mask & 1 << action).collect();
     comparison.withdraw_list(plant, &book, &mask_bytes(&masks), [1 << 16, 1 << 12]);
+    let (_, index) = comparison.index(plant, 1 << 15);
+    comparison.make_indexed(plant, &index, mask, 1 << 16);
+    comparison.withdraw_indexed(plant, &index, &book, mask & 1, [1 << 16, 1 << 12]);
     comparison.consult(&book, 1023, 7);
     comparison.moves(plant, &book, 1023, 7);
     comparison.row(&book, 1023);

@@ -1,8 +1,8 @@
-//! The bytes of plants, books and lists of masks: what document 01 refuses with 1 to 5 and document 02 with 9, and how
-//! a book is laid out.
+//! The bytes of plants, indexes, books and lists of masks: what document 01 refuses with 1 to 5 and document 02 with 9
+//! and 10, and how an index and a book are laid out.
 
 use super::{require, Table};
-use crate::plants::SETTLED;
+use crate::plants::{bytes_of, SETTLED};
 use crate::sys::LONGEST_MASKS;
 use crate::Refusal;
 
@@ -105,6 +105,38 @@ fn read_arrows(bytes: &[u8], states: u16, moves: u16) -> Option<Vec<Arrow>> {
     }
     let ends_well = least >> 32 < u64::from(states);
     (is_fine && ends_well).then(|| bytes.chunks_exact(6).map(read).collect())
+}
+
+/// How long the plant's index is.
+pub fn index_length(plant: &Plant) -> usize {
+    8 + 2 * plant.arrows.len()
+}
+
+/// The bytes of the plant's index, by a sort that leaves arrows into one state as they stand.
+pub fn index_bytes(plant: &Plant) -> Vec<u8> {
+    let count = plant.arrows.len() as u16;
+    let mut numbers: Vec<u16> = (0..count).collect();
+    numbers.sort_by_key(|&number| plant.arrows[usize::from(number)].to);
+    let header = [plant.states as u16, count, 8, index_length(plant) as u16];
+    bytes_of(header.iter().chain(&numbers))
+}
+
+/// Reads the plant's index: the numbers of its arrows by the state they end in, and then by number. Refuses with 10.
+/// Nothing is sorted for that: numbers of arrows that rise in this order, as many as there are arrows, are all of them.
+pub fn read_index(bytes: &[u8], plant: &Plant) -> Result<Vec<u16>, Refusal> {
+    let length = index_length(plant);
+    let header = [plant.states as u16, plant.arrows.len() as u16, 8, length as u16];
+    require(bytes.len() == length && numbers(&bytes[..8]).eq(header), Refusal::Index)?;
+    let order: Vec<u16> = numbers(&bytes[8..]).collect();
+    let (mut is_fine, mut least) = (true, 0);
+    for &number in &order {
+        let end = plant.arrows.get(usize::from(number)).map(|arrow| arrow.to);
+        let rank = end.map_or(0, |end| u32::from(end) << 16 | u32::from(number));
+        is_fine &= end.is_some() & (least <= rank);
+        least = rank + 1;
+    }
+    require(is_fine, Refusal::Index)?;
+    Ok(order)
 }
 
 /// A book that was read and found without fault.

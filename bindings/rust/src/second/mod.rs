@@ -6,6 +6,8 @@
 //! - [`Plain`] is the textbook's nested fixed point, by sweeps over all arrows. It is the speed baseline.
 //! - [`Fast`] strikes states out from a worklist, with the arrows indexed by the state they end in.
 //!
+//! By an index lent, the worklist lists the arrows in its order, and the others solve as ever.
+//!
 //! They share the checks and the layout of the bytes ([`mod@format`]) and the frame of the calls in this file, and nothing
 //! of the solving: each turns a [`Plant`], the moves in service and the states it may use into a [`Table`]. In a plant
 //! whose runs must settle they find the stages of request (ix) one after another.
@@ -66,6 +68,12 @@ pub trait Solve {
     /// The table for the moves of `mask` in service, with strategies that never leave the allowed states that `within`
     /// holds.
     fn solve(plant: &Plant, mask: u32, within: &[bool]) -> Table;
+
+    /// The same table, by the numbers of the plant's arrows in the order of the states they end in; a solver that has no
+    /// use for them solves as ever.
+    fn solve_by(plant: &Plant, _order: &[u16], mask: u32, within: &[bool]) -> Table {
+        Self::solve(plant, mask, within)
+    }
 }
 
 impl<S: Solve> Calls for S {
@@ -74,7 +82,7 @@ impl<S: Solve> Calls for S {
     }
 
     fn make(&self, plant: &[u8], mask: u32, book: &mut [u8]) -> Answer {
-        answered(make::<S>(plant, mask, book))
+        answered(Ground::read(plant).and_then(|ground| make::<S>(&ground, mask, book)))
     }
 
     fn withdraw(&self, plant: &[u8], book: &[u8], mask: u32, out: &mut [u8], drops: &mut [u8]) -> Answer {
@@ -88,6 +96,27 @@ impl<S: Solve> Calls for S {
 
     fn return_moves(&self, plant: &[u8], book: &[u8], mask: u32, out: &mut [u8], gained: &mut [u8]) -> Answer {
         answered(Start::read(plant, book).and_then(|start| start.return_moves::<S>(mask, out, gained)))
+    }
+
+    fn index(&self, plant: &[u8], index: &mut [u8]) -> Answer {
+        answered(write_index(plant, index))
+    }
+
+    fn make_indexed(&self, plant: &[u8], index: &[u8], mask: u32, book: &mut [u8]) -> Answer {
+        answered(Ground::indexed(plant, index).and_then(|ground| make::<S>(&ground, mask, book)))
+    }
+
+    fn withdraw_indexed(
+        &self,
+        plant: &[u8],
+        index: &[u8],
+        book: &[u8],
+        mask: u32,
+        out: &mut [u8],
+        drops: &mut [u8],
+    ) -> Answer {
+        let start = Ground::indexed(plant, index).and_then(|ground| Start::on(ground, book));
+        answered(start.and_then(|start| start.withdraw::<S>(&[mask], out, drops)))
     }
 
     fn preview(&self, plant: &[u8], book: &[u8], mask: u32, drops: &mut [u8]) -> Cost {
@@ -112,29 +141,64 @@ fn answered(result: Result<Answer, Refusal>) -> Answer {
     result.unwrap_or_else(|refusal| Answer::refused(refusal.number()))
 }
 
-fn make<S: Solve>(plant: &[u8], mask: u32, book: &mut [u8]) -> Result<Answer, Refusal> {
-    let plant = Plant::read(plant)?;
+/// A plant, and the order of its arrows by an index, if one is lent.
+struct Ground {
+    plant: Plant,
+    order: Option<Vec<u16>>,
+}
+
+impl Ground {
+    /// Refuses with 1 to 3.
+    fn read(plant: &[u8]) -> Result<Ground, Refusal> {
+        Ok(Ground { plant: Plant::read(plant)?, order: None })
+    }
+
+    /// Refuses with 1 to 3 and 10.
+    fn indexed(plant: &[u8], index: &[u8]) -> Result<Ground, Refusal> {
+        let plant = Plant::read(plant)?;
+        let order = format::read_index(index, &plant)?;
+        Ok(Ground { plant, order: Some(order) })
+    }
+
+    fn solve<S: Solve>(&self, mask: u32, within: &[bool]) -> Table {
+        match &self.order {
+            Some(order) => S::solve_by(&self.plant, order, mask, within),
+            None => S::solve(&self.plant, mask, within),
+        }
+    }
+}
+
+fn make<S: Solve>(ground: &Ground, mask: u32, book: &mut [u8]) -> Result<Answer, Refusal> {
+    let plant = &ground.plant;
     let length = plant.book_length();
     require(plant.has_moves(mask), Refusal::Mask)?;
     require(book.len() >= length, Refusal::Buffer)?;
-    let table = S::solve(&plant, mask, &vec![true; plant.states]);
-    format::write_book(&plant, mask, &table, &mut book[..length]);
+    let table = ground.solve::<S>(mask, &vec![true; plant.states]);
+    format::write_book(plant, mask, &table, &mut book[..length]);
+    Ok(Answer { number: 0, length: length as u32, drops: 0 })
+}
+
+fn write_index(plant: &[u8], index: &mut [u8]) -> Result<Answer, Refusal> {
+    let plant = Plant::read(plant)?;
+    let length = format::index_length(&plant);
+    require(index.len() >= length, Refusal::Buffer)?;
+    index[..length].copy_from_slice(&format::index_bytes(&plant));
     Ok(Answer { number: 0, length: length as u32, drops: 0 })
 }
 
 /// Solves the plant as withdraw does, and counts the rows in place of writing them.
 fn preview<S: Solve>(plant: &[u8], book: &[u8], mask: u32, drops: &mut [u8]) -> Result<Cost, Refusal> {
     let start = Start::read(plant, book)?;
-    require(start.plant.has_moves(mask), Refusal::Mask)?;
-    require(drops.len() >= 2 * start.plant.states, Refusal::Buffer)?;
+    require(start.ground.plant.has_moves(mask), Refusal::Mask)?;
+    require(drops.len() >= 2 * start.ground.plant.states, Refusal::Buffer)?;
     let (_, table) = start.solve::<S>(&[mask]);
-    let kept = table.kept_count(&start.plant) as u32;
+    let kept = table.kept_count(&start.ground.plant) as u32;
     Ok(Cost { number: 0, drops: list_states(start.dropped(&table), drops), kept })
 }
 
 /// What withdrawals, previews of them and returns start from.
 struct Start {
-    plant: Plant,
+    ground: Ground,
     /// Whether each state is kept in the book handed in.
     kept: Vec<bool>,
     /// The moves in service in that book.
@@ -144,10 +208,14 @@ struct Start {
 impl Start {
     /// Refuses with 1 to 5.
     fn read(plant: &[u8], book: &[u8]) -> Result<Start, Refusal> {
-        let plant = Plant::read(plant)?;
-        let book = BookView::read(book, Some(&plant))?;
-        let kept = (0..plant.states).map(|state| book.is_kept(state)).collect();
-        Ok(Start { plant, kept, mask: book.mask })
+        Start::on(Ground::read(plant)?, book)
+    }
+
+    /// Refuses with 4 and 5.
+    fn on(ground: Ground, book: &[u8]) -> Result<Start, Refusal> {
+        let book = BookView::read(book, Some(&ground.plant))?;
+        let kept = (0..book.states).map(|state| book.is_kept(state)).collect();
+        Ok(Start { ground, kept, mask: book.mask })
     }
 
     /// Withdraws the moves of these masks, of which there is one at least, in turn, and writes the last book and the
@@ -163,21 +231,21 @@ impl Start {
     fn return_moves<S: Solve>(&self, mask: u32, out: &mut [u8], gained: &mut [u8]) -> Result<Answer, Refusal> {
         self.check(&[mask], out, gained)?;
         let in_service = self.mask | mask;
-        let table = S::solve(&self.plant, in_service, &vec![true; self.plant.states]);
+        let table = self.ground.solve::<S>(in_service, &vec![true; self.ground.plant.states]);
         Ok(Answer { drops: list_states(self.gained(&table), gained), ..self.write(in_service, &table, out) })
     }
 
     /// Refuses with 6 and 7: masks, and buffers for a book and for a list of states.
     fn check(&self, masks: &[u32], out: &[u8], list: &[u8]) -> Result<(), Refusal> {
-        let plant = &self.plant;
+        let plant = &self.ground.plant;
         require(masks.iter().all(|&mask| plant.has_moves(mask)), Refusal::Mask)?;
         require(out.len() >= plant.book_length() && list.len() >= 2 * plant.states, Refusal::Buffer)
     }
 
     /// Writes the book of a table; the answer has its length, and no state listed yet.
     fn write(&self, mask: u32, table: &Table, out: &mut [u8]) -> Answer {
-        let length = self.plant.book_length();
-        format::write_book(&self.plant, mask, table, &mut out[..length]);
+        let length = self.ground.plant.book_length();
+        format::write_book(&self.ground.plant, mask, table, &mut out[..length]);
         Answer { number: 0, length: length as u32, drops: 0 }
     }
 
@@ -186,22 +254,22 @@ impl Start {
     fn solve<S: Solve>(&self, masks: &[u32]) -> (u32, Table) {
         let (first, others) = masks.split_first().expect("one mask at least");
         let mut left = self.mask & !first;
-        let mut table = S::solve(&self.plant, left, &self.kept);
+        let mut table = self.ground.solve::<S>(left, &self.kept);
         for mask in others {
             left &= !mask;
-            table = S::solve(&self.plant, left, &table.kept(&self.plant));
+            table = self.ground.solve::<S>(left, &table.kept(&self.ground.plant));
         }
         (left, table)
     }
 
     /// The states that were kept and that the table has lost, by rising number.
     fn dropped<'a>(&'a self, table: &'a Table) -> impl Iterator<Item = usize> + 'a {
-        (0..self.plant.states).filter(|&state| self.kept[state] && !table.is_kept(&self.plant, state))
+        (0..self.ground.plant.states).filter(|&state| self.kept[state] && !table.is_kept(&self.ground.plant, state))
     }
 
     /// The states that were lost and that the table keeps, by rising number.
     fn gained<'a>(&'a self, table: &'a Table) -> impl Iterator<Item = usize> + 'a {
-        (0..self.plant.states).filter(|&state| !self.kept[state] && table.is_kept(&self.plant, state))
+        (0..self.ground.plant.states).filter(|&state| !self.kept[state] && table.is_kept(&self.ground.plant, state))
     }
 }
 

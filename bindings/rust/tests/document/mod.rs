@@ -1,12 +1,13 @@
 //! What document 01 fixes by hand: the marked examples M1 to M11, and the table of refusals with its edges; and what
 //! requests (i), (ii), (iv), (v), (vi) and (vii) of document 02 say of the good moves, of drop lists, of previews, of
-//! the goals that are passed, of lists of withdrawals and of returns, worked out by hand. What request (ix) says of
-//! plants that must settle is in [`settle`]. Run on any planner.
+//! the goals that are passed, of lists of withdrawals and of returns, worked out by hand. What request (viii) says of
+//! indexes is in [`index`], and what request (ix) says of plants that must settle in [`settle`]. Run on any planner.
 
 use planbook::calls::{mask_bytes, Calls};
 use planbook::plants::{self, bytes_of, Model};
 use planbook::sys::{Advice, Answer, Cost, Mask, Part};
 
+pub mod index;
 pub mod settle;
 
 const LOST: u16 = u16::MAX;
@@ -672,13 +673,8 @@ fn changed(numbers: &[u16], changes: &[(usize, u16)]) -> Vec<u8> {
 }
 
 fn check_make(planner: &dyn Calls, plant: &[u8], mask: u32, length: usize, number: u32) {
-    let mut book = vec![0xa5; length];
-    let answer = planner.make(plant, mask, &mut book);
-    assert_eq!(answer.number, number, "make of {plant:?}");
-    if number != 0 {
-        assert_eq!(answer, Answer::refused(number));
-        assert!(book.iter().all(|&byte| byte == 0xa5), "a refusal writes nothing");
-    }
+    let what = || format!("make of {plant:?}");
+    check_number([length, 0], number, &what, |book, _| planner.make(plant, mask, book));
 }
 
 fn check_withdraw(planner: &dyn Calls, plant: &[u8], book: &[u8], mask: u32, lengths: [usize; 2], number: u32) {
@@ -696,7 +692,7 @@ fn check_return_number(planner: &dyn Calls, plant: &[u8], book: &[u8], mask: u32
     check_number(lengths, number, &what, |out, list| planner.return_moves(plant, book, mask, out, list));
 }
 
-/// A withdrawal or a return with buffers of these lengths: the number, and nothing counted or written if refused.
+/// A call that writes in buffers of these lengths: the number, and nothing counted or written if refused.
 fn check_number(
     lengths: [usize; 2],
     number: u32,
@@ -785,6 +781,7 @@ fn check_plant(planner: &dyn Calls, plant: &[u8], number: u32) {
         check_return_number(planner, plant, &book, 0, [48, 8], number);
         check_preview(planner, plant, &book, 0, 8, number);
         check_moves(planner, plant, &book, 0, 0, number);
+        index::check_plant(planner, plant, &book, number);
     }
 }
 
@@ -801,6 +798,7 @@ fn check_book_of(planner: &dyn Calls, plant: &[u8], book: &[u8], mask: u32, numb
     check_return_number(planner, plant, book, mask, [48, 8], number);
     check_preview(planner, plant, book, mask, 8, number);
     check_moves(planner, plant, book, 0, 0, number);
+    index::check_book(planner, plant, book, mask, number);
 }
 
 /// 1: the plant's header and length.

@@ -11,7 +11,7 @@ use planbook::sys::{Answer, Part};
 fn plant(moves: u16, goals: u16, last: u16, labels: &[u16], arrows: &[[u16; 3]]) -> Vec<u16> {
     let (states, count) = (labels.len() as u16, arrows.len() as u16);
     let header = [states, moves, goals, count, 16, 16 + 2 * states, 16 + 2 * states + 6 * count, last];
-    header.iter().chain(labels).chain(arrows.as_flattened()).copied().collect()
+    header.iter().chain(labels).chain(arrows.iter().flatten()).copied().collect()
 }
 
 /// The numbers of a book with stages: rows of the stage, and wait and move for each goal.

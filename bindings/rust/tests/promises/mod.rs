@@ -1,13 +1,14 @@
-//! What requests (i), (ii), (iv) to (vii) and (ix) of document 02 promise of the books that make, withdraw or return wrote
+//! What requests (i), (ii), (iv) to (ix) of document 02 promise of the books that make, withdraw or return wrote
 //! for a plant: which goal is arrived at and which the good moves are, that following the book meets all goals, by its
 //! own moves or by any pick from the good ones, what a drop list says of the books before and after, that previews come
-//! true, what a list of withdrawals comes to, that returns undo withdrawals, and what any list of calls comes to.
+//! true, what a list of withdrawals comes to, that returns undo withdrawals, what an index is and that calls by it come
+//! to those without, and what any list of calls comes to.
 //! Run on any planner; nothing is compared with another.
 
 use planbook::calls::{mask_bytes, Calls};
 use planbook::plants::{self, Model, Random, FAMILIES, SETTLED, WAYS_TO_SETTLE};
 use planbook::second::format::{in_mask, number, together, BookView, Plant};
-use planbook::sys::{Advice, Answer};
+use planbook::sys::{Advice, Answer, LONGEST_INDEX};
 
 /// Every move of a mask.
 fn moves_of(mask: u32) -> Vec<u16> {
@@ -27,7 +28,7 @@ fn make(planner: &dyn Calls, model: &Model, mask: u32) -> Vec<u8> {
 }
 
 /// The book that an accepted call writes, and the states that it lists.
-fn written(model: &Model, call: impl FnOnce(&mut [u8], &mut [u8]) -> Answer) -> (Vec<u8>, Vec<u16>) {
+fn written_by(model: &Model, call: impl FnOnce(&mut [u8], &mut [u8]) -> Answer) -> (Vec<u8>, Vec<u16>) {
     let [mut out, mut list] = lengths(model).map(|length| vec![0; length]);
     let answer = call(&mut out, &mut list);
     assert_eq!(answer.number, 0);
@@ -36,17 +37,17 @@ fn written(model: &Model, call: impl FnOnce(&mut [u8], &mut [u8]) -> Answer) -> 
 
 /// The book without the moves of a mask, and the drop list.
 fn withdraw_listed(planner: &dyn Calls, model: &Model, book: &[u8], mask: u32) -> (Vec<u8>, Vec<u16>) {
-    written(model, |out, list| planner.withdraw(&model.bytes(), book, mask, out, list))
+    written_by(model, |out, list| planner.withdraw(&model.bytes(), book, mask, out, list))
 }
 
 /// The book without the moves of a list of masks, and the drop list.
 fn withdraw_list(planner: &dyn Calls, model: &Model, book: &[u8], masks: &[u32]) -> (Vec<u8>, Vec<u16>) {
-    written(model, |out, list| planner.withdraw_list(&model.bytes(), book, &mask_bytes(masks), out, list))
+    written_by(model, |out, list| planner.withdraw_list(&model.bytes(), book, &mask_bytes(masks), out, list))
 }
 
 /// The book with the moves of a mask back in service, and the states gained.
 fn return_moves(planner: &dyn Calls, model: &Model, book: &[u8], mask: u32) -> (Vec<u8>, Vec<u16>) {
-    written(model, |out, list| planner.return_moves(&model.bytes(), book, mask, out, list))
+    written_by(model, |out, list| planner.return_moves(&model.bytes(), book, mask, out, list))
 }
 
 /// The states that a withdrawal of the moves of a mask would drop, and how many it would keep.
@@ -278,25 +279,111 @@ pub fn returns_come_to_a_making(planner: &dyn Calls) {
     assert!(none > 1_000 && one > 100 && more > 500 && high > 50 && losing > 500);
 }
 
+/// The index that a planner builds for a plant.
+fn index_of(planner: &dyn Calls, model: &Model) -> Vec<u8> {
+    let mut index = vec![0; LONGEST_INDEX];
+    let answer = planner.index(&model.bytes(), &mut index);
+    assert_eq!(answer.number, 0);
+    index.truncate(answer.length as usize);
+    index
+}
+
+/// Bytes that are not the plant's index: cut, longer, with a bit changed, or with two arrows exchanged.
+fn other_index(index: &[u8], random: &mut Random) -> Vec<u8> {
+    let mut other = index.to_vec();
+    let [one, two] = [(); 2].map(|()| 4 + random.below(index.len().max(10) / 2 - 4));
+    match random.below(4) {
+        0 => other.truncate(random.below(index.len())),
+        1 => other.push(0),
+        2 if one != two => {
+            for at in 0..2 {
+                other.swap(2 * one + at, 2 * two + at);
+            }
+        }
+        _ => other[random.below(index.len())] ^= 1 << random.below(8),
+    }
+    other
+}
+
+/// An index has S, E, 8 and its length, and then the number of each arrow once, in the order of where they end and, for
+/// one end, of their numbers. A make and a withdrawal by it come to those without, from books that were written and
+/// from others; by any other bytes they are refused and write nothing.
+pub fn calls_by_index_come_to_those_without(planner: &dyn Calls) {
+    // How many withdrawals drop no state, drop some and keep others, and drop all; and how many indexes have ties.
+    let (mut costs, mut ties) = ([0; 3], 0);
+    for seed in 0..2_000 {
+        let random = &mut Random::new(seed);
+        let (model, written) = any_book(planner, random);
+        let (bytes, index) = (model.bytes(), index_of(planner, &model));
+        let plant = Plant::read(&bytes).expect("a plant");
+        let numbers = listed(&index, index.len() as u32 / 2);
+        let [states, arrows] = [plant.states, plant.arrows.len()].map(|count| count as u16);
+        assert_eq!(numbers[..4], [states, arrows, 8, index.len() as u16], "the header of seed {seed}");
+        let ranks: Vec<(u16, u16)> =
+            numbers[4..].iter().map(|&arrow| (plant.arrows[usize::from(arrow)].to, arrow)).collect();
+        assert_eq!(ranks.len(), plant.arrows.len(), "as many as there are arrows, seed {seed}");
+        assert!(ranks.windows(2).all(|pair| pair[0] < pair[1]), "the arrows of seed {seed} rise: {ranks:?}");
+        ties += u64::from(ranks.windows(2).any(|pair| pair[0].0 == pair[1].0));
+
+        let made = written_by(&model, |out, _| planner.make_indexed(&bytes, &index, read(&written).mask, out));
+        assert_eq!(made, (make(planner, &model, read(&written).mask), vec![]), "made by index, seed {seed}");
+        let mask = random.bits() as u32 & random.bits() as u32 & model.every_move();
+        for book in [tampered(&written, random), written] {
+            let by_index = |index: &[u8], out: &mut [u8], list: &mut [u8]| {
+                planner.withdraw_indexed(&bytes, index, &book, mask, out, list)
+            };
+            let (rest, dropped) = written_by(&model, |out, list| by_index(&index, out, list));
+            let kind = match (dropped.is_empty(), kept_states(&rest).is_empty()) {
+                (true, _) => 0,
+                (false, false) => 1,
+                (false, true) => 2,
+            };
+            costs[kind] += 1;
+            let plain = withdraw_listed(planner, &model, &book, mask);
+            assert_eq!((rest, dropped), plain, "{mask:#x} withdrawn by index, seed {seed}");
+            let other = other_index(&index, random);
+            let [mut out, mut list] = lengths(&model).map(|length| vec![0xa5; length]);
+            let refused = [by_index(&other, &mut out, &mut list), planner.make_indexed(&bytes, &other, mask, &mut out)];
+            assert_eq!(refused, [Answer::refused(10); 2], "by {other:?}, seed {seed}");
+            assert!(out.iter().chain(&list).all(|&byte| byte == 0xa5), "a refused call writes nothing, seed {seed}");
+        }
+    }
+    let [none, some, all] = costs;
+    println!(
+        "{}: by an index {none} withdrawals drop no state, {some} drop some and keep others, {all} drop all; {ties} \
+         indexes have several arrows into one state",
+        planner.name()
+    );
+    assert!(none > 1_000 && some > 200 && all > 200 && ties > 1_000);
+}
+
 /// A planner's standing book on one plant, and the moves in service as they are told from the calls alone.
 struct Standing<'a> {
     planner: &'a dyn Calls,
     model: &'a Model,
+    index: &'a [u8],
     book: Vec<u8>,
     in_service: u32,
 }
 
 impl Standing<'_> {
-    /// Makes any call, with any mask and buffers; answers its number, which is told from these alone. A refused call
-    /// writes nothing, and leaves the standing book.
+    /// Makes any call, with any mask and buffers, and any index if it takes one; answers its number, which is told from
+    /// these alone. A refused call writes nothing, and leaves the standing book.
     fn call(&mut self, random: &mut Random) -> u32 {
         let any_length = |needed: usize, random: &mut Random| if random.once_in(12) { needed - 1 } else { needed + 2 };
         let [mut out, mut list] = lengths(self.model).map(|needed| vec![0xa5; any_length(needed, random)]);
         let [a, b] = [(); 2].map(|()| self.any_mask(random));
         let (planner, plant, book) = (self.planner, self.model.bytes(), &self.book);
-        let kind = random.below(7);
+        let right = !random.once_in(4);
+        let index = if right { self.index.to_vec() } else { other_index(self.index, random) };
+        let kind = random.below(10);
         let (answer, named, then) = match kind {
             0 => (planner.make(&plant, a, &mut out), a, a),
+            7 => (planner.make_indexed(&plant, &index, a, &mut out), a, a),
+            8..=9 => {
+                let answer = planner.withdraw_indexed(&plant, &index, book, a, &mut out, &mut list);
+                (answer, a, self.in_service & !a)
+            }
             1 => {
                 let masks = mask_bytes(&[a, b]);
                 let answer = planner.withdraw_list(&plant, book, &masks, &mut out, &mut list);
@@ -306,8 +393,12 @@ impl Standing<'_> {
             _ => (planner.return_moves(&plant, book, a, &mut out, &mut list), a, self.in_service | a),
         };
         let [length, list_length] = lengths(self.model);
-        let short = out.len() < length || (kind != 0 && list.len() < list_length);
-        let told = if named & !self.model.every_move() != 0 { 6 } else { 7 * u32::from(short) };
+        let short = out.len() < length || (![0, 7].contains(&kind) && list.len() < list_length);
+        let told = match (kind < 7 || right, named & !self.model.every_move() == 0) {
+            (false, _) => 10,
+            (true, false) => 6,
+            (true, true) => 7 * u32::from(short),
+        };
         assert_eq!(answer.number, told, "told from the call alone");
         if told == 0 {
             out.truncate(answer.length as usize);
@@ -330,22 +421,23 @@ impl Standing<'_> {
     }
 }
 
-/// Demand 3: after any list of makes, withdrawals, lists of withdrawals and returns, refused ones among them, the
-/// standing book is the one made afresh for the moves in service; and the books after two lists on one plant are equal
-/// exactly when the same moves are in service.
+/// Demand 3: after any list of makes, withdrawals, lists of withdrawals, returns, and makes and withdrawals by an
+/// index, refused ones among them, the standing book is the one made afresh for the moves in service; and the books
+/// after two lists on one plant are equal exactly when the same moves are in service.
 pub fn lists_of_calls_come_to_a_making(planner: &dyn Calls) {
-    // How many calls are accepted, refused with 6 and with 7; how many pairs of books differ and are equal.
-    let (mut calls, mut pairs) = ([0; 3], [0; 2]);
+    // How many calls are accepted, refused with 6, with 7 and with 10; how many pairs of books differ and are equal.
+    let (mut calls, mut pairs) = ([0; 11], [0; 2]);
     for seed in 0..1_500 {
         let random = &mut Random::new(seed);
         let model = if random.once_in(4) { plants::any_size(random) } else { plants::tiny(random) };
         let model = plants::either_sort(model, random);
+        let index = index_of(planner, &model);
         let [one, two] = [(); 2].map(|()| {
             let in_service = random.bits() as u32 & model.every_move();
             let book = make(planner, &model, in_service);
-            let mut standing = Standing { planner, model: &model, book, in_service };
+            let mut standing = Standing { planner, model: &model, index: &index, book, in_service };
             for _ in 0..random.from_to(0, 12) {
-                calls[standing.call(random).saturating_sub(5) as usize] += 1;
+                calls[standing.call(random) as usize] += 1;
             }
             let afresh = make(planner, &model, standing.in_service);
             assert_eq!(standing.book, afresh, "after a list of calls, seed {seed}");
@@ -355,13 +447,14 @@ pub fn lists_of_calls_come_to_a_making(planner: &dyn Calls) {
         assert_eq!(one.book == two.book, equal, "the same moves in service, seed {seed}");
         pairs[usize::from(equal)] += 1;
     }
-    let ([accepted, bad_masks, short], [differ, equal]) = (calls, pairs);
+    let [differ, equal] = pairs;
+    let [accepted, bad_masks, short, misfits] = [0, 6, 7, 10].map(|number: usize| calls[number]);
     println!(
-        "{}: {accepted} calls are accepted, {bad_masks} refused with 6, {short} with 7; of the books after two lists \
-         {equal} pairs are equal and {differ} differ",
+        "{}: {accepted} calls are accepted, {bad_masks} refused with 6, {short} with 7, {misfits} with 10; of the \
+         books after two lists {equal} pairs are equal and {differ} differ",
         planner.name()
     );
-    assert!(accepted > 10_000 && bad_masks > 300 && short > 500 && equal > 200 && differ > 500);
+    assert!(accepted > 10_000 && bad_masks > 300 && short > 500 && misfits > 500 && equal > 200 && differ > 500);
 }
 
 /// The plant of one stage, which need not settle: settled states, and those that leave for the states given, which stay

@@ -60,6 +60,7 @@ impl Solve for ShortWaits {
     }
 }
 
+mod indexes;
 mod settling;
 
 /// The good moves of a kept state for a goal, by some rule.
@@ -122,6 +123,26 @@ impl Calls for Own {
 
     fn return_moves(&self, plant: &[u8], book: &[u8], mask: u32, out: &mut [u8], gained: &mut [u8]) -> Answer {
         (self.repair)(&Returned { plant, book, mask }, out, gained)
+    }
+
+    fn index(&self, plant: &[u8], index: &mut [u8]) -> Answer {
+        Fast.index(plant, index)
+    }
+
+    fn make_indexed(&self, plant: &[u8], index: &[u8], mask: u32, book: &mut [u8]) -> Answer {
+        Fast.make_indexed(plant, index, mask, book)
+    }
+
+    fn withdraw_indexed(
+        &self,
+        plant: &[u8],
+        index: &[u8],
+        book: &[u8],
+        mask: u32,
+        out: &mut [u8],
+        drops: &mut [u8],
+    ) -> Answer {
+        Fast.withdraw_indexed(plant, index, book, mask, out, drops)
     }
 
     fn preview(&self, plant: &[u8], book: &[u8], mask: u32, drops: &mut [u8]) -> Cost {
@@ -350,7 +371,8 @@ fn kept_in_both<'a>(old: &'a [u8], book: &'a [u8]) -> impl Iterator<Item = u16> 
 
 /// Puts the old stages in the rows of states that are still kept.
 fn keep_old_stages(old: &[u8], book: &mut [u8]) {
-    for state in kept_in_both(old, &book.to_vec()) {
+    let kept: Vec<u16> = kept_in_both(old, book).collect();
+    for state in kept {
         let place = row_of(old, state).start;
         book[place..place + 2].copy_from_slice(&old[place..place + 2]);
     }
@@ -358,7 +380,8 @@ fn keep_old_stages(old: &[u8], book: &mut [u8]) {
 
 /// The same for stages that would be earlier than before, as those of a book that was made never are.
 fn raise_to_old_stages(old: &[u8], book: &mut [u8]) {
-    for state in kept_in_both(old, &book.to_vec()) {
+    let kept: Vec<u16> = kept_in_both(old, book).collect();
+    for state in kept {
         let place = row_of(old, state).start;
         let stage = number(old, place).max(number(book, place));
         book[place..place + 2].copy_from_slice(&stage.to_le_bytes());
@@ -844,7 +867,7 @@ const WRONG_MAKINGS: usize = 24;
 fn compare(planner: &dyn Calls, second: &dyn Calls) {
     let mut comparison = Comparison::new(planner, second);
     for (_, round) in rounds::RANDOM_ROUNDS {
-        rounds::run(&mut comparison, round, 1, 2_000);
+        rounds::run(&mut comparison, round, 1, 3_000);
     }
 }
 
@@ -871,7 +894,7 @@ fn beside_fast(wrong: &dyn Calls) -> [&dyn Calls; 2] {
 }
 
 /// Beside itself, so that the fault must show by what the planner says elsewhere.
-fn beside_itself(wrong: &Own) -> [&dyn Calls; 2] {
+fn beside_itself(wrong: &dyn Calls) -> [&dyn Calls; 2] {
     [wrong, wrong]
 }
 
@@ -885,18 +908,24 @@ fn wrong_planners_are_found() {
     check_found(WRONG_SHEETS.iter().map(|planner| beside_fast(planner)), "in withdraw list, masks ");
     check_found(WRONG_REPAIRS.iter().map(|planner| beside_fast(planner)), "in return, mask ");
     // A wrong preview shows by the planner's own withdrawal, and a wrong goal by its own consult.
-    check_found(WRONG_LOOKS.iter().chain(&WRONG_AIMS[..UNSTEADY_AIMS]).map(beside_itself), ", plant ");
+    let unsteady = WRONG_LOOKS.iter().chain(&WRONG_AIMS[..UNSTEADY_AIMS]);
+    check_found(unsteady.map(|planner| beside_itself(planner)), ", plant ");
     // A wrong list shows by the planner's own withdrawals, and a wrong refusal of it by that of all its moves at once.
     let (in_turn, others) = WRONG_SHEETS.split_at(WRONG_IN_TURN);
-    check_found(in_turn.iter().map(beside_itself), " alone, with its single withdrawals in turn second: withdraw list");
-    check_found(others.iter().map(beside_itself), "withdraw list, masks ");
+    let part = " alone, with its single withdrawals in turn second: withdraw list";
+    check_found(in_turn.iter().map(|planner| beside_itself(planner)), part);
+    check_found(others.iter().map(|planner| beside_itself(planner)), "withdraw list, masks ");
     // A wrong return shows by the planner's own making, and a wrong refusal of it by its own withdrawal.
     let (makings, others) = WRONG_REPAIRS.split_at(WRONG_MAKINGS);
-    check_found(makings.iter().map(beside_itself), " alone, with its making second: return, mask ");
-    check_found(others.iter().map(beside_itself), "return, mask ");
+    check_found(makings.iter().map(|planner| beside_itself(planner)), " alone, with its making second: return, mask ");
+    check_found(others.iter().map(|planner| beside_itself(planner)), "return, mask ");
+    // What is wrong by an index shows by the calls without one, but for what is wrong in building it alone.
+    compare(&indexes::RIGHT, &Fast);
+    check_found(indexes::all().map(beside_fast), "index, ");
+    check_found(indexes::unlike_without().map(beside_itself), " by index, mask ");
     // Consult takes no plant.
     check_found(WRONG_ASKS.iter().map(|planner| beside_fast(planner)), "in consult, state ");
-    check_found(WRONG_ASKS[..UNSTEADY_ASKS].iter().map(beside_itself), ", book ");
+    check_found(WRONG_ASKS[..UNSTEADY_ASKS].iter().map(|planner| beside_itself(planner)), ", book ");
     // In plants that must settle alone.
     compare(&settling::Settling::<0>, &Fast);
     check_found(settling::flawed().into_iter().map(beside_fast), ", plant ");

@@ -210,7 +210,7 @@ impl Game<'_> {
                 let leaves = leaves[state] && !(flaws.goal_first && plant.in_goal(state, goal));
                 let wait = if leaves { 0 } else { waits[state] };
                 let beside = |end: usize| own(end) && (wait == 0 || waits[end] < wait);
-                let good = |end: usize| earlier[end] && !(flaws.own_stage && !leaves) || !leaves && beside(end);
+                let good = |end: usize| earlier[end] && (leaves || !flaws.own_stage) || !leaves && beside(end);
                 let at = state * plant.goals + goal;
                 table.stages[state] = number;
                 table.waits[at] = if leaves && flaws.waits_of_exits { plain[state] } else { wait };
@@ -402,6 +402,28 @@ impl Calls for Lenient {
     fn return_moves(&self, plant: &[u8], book: &[u8], mask: u32, out: &mut [u8], gained: &mut [u8]) -> Answer {
         let (plant, book) = (self.plant(plant), self.book(book, Some(plant)));
         self.with_room(&plant, out, |out| Fast.return_moves(&plant, &book, mask, out, gained))
+    }
+
+    fn index(&self, plant: &[u8], index: &mut [u8]) -> Answer {
+        Fast.index(&self.plant(plant), index)
+    }
+
+    fn make_indexed(&self, plant: &[u8], index: &[u8], mask: u32, book: &mut [u8]) -> Answer {
+        let plant = self.plant(plant);
+        self.with_room(&plant, book, |book| Fast.make_indexed(&plant, index, mask, book))
+    }
+
+    fn withdraw_indexed(
+        &self,
+        plant: &[u8],
+        index: &[u8],
+        book: &[u8],
+        mask: u32,
+        out: &mut [u8],
+        drops: &mut [u8],
+    ) -> Answer {
+        let (plant, book) = (self.plant(plant), self.book(book, Some(plant)));
+        self.with_room(&plant, out, |out| Fast.withdraw_indexed(&plant, index, &book, mask, out, drops))
     }
 
     fn preview(&self, plant: &[u8], book: &[u8], mask: u32, drops: &mut [u8]) -> Cost {

@@ -8,6 +8,7 @@ use planbook::calls::{mask_bytes, Calls};
 use planbook::plants::{Family, Model, Random, Settled};
 use planbook::second::format::{number, together, BookView};
 use planbook::second::Fast;
+use planbook::sys::LONGEST_INDEX;
 
 /// A plant, its books and the buffers for calls.
 pub struct Case {
@@ -17,18 +18,21 @@ pub struct Case {
     pub book: Vec<u8>,
     /// The same without the highest move.
     rest: Vec<u8>,
+    /// The plant's arrows by where they end.
+    index: Vec<u8>,
     /// The upper half of the moves, one by one and from the highest down, as 16 masks.
     masks: Vec<u32>,
     /// What the calls write.
     out: Vec<u8>,
     before: Vec<u8>,
     states: Vec<u8>,
+    built: Vec<u8>,
     /// What the last call answered.
     kept: u32,
 }
 
 impl Case {
-    /// The books are made by the worklist solver, so that no other is called before it is measured.
+    /// Books and index are made by the worklist solver, so that no other is called before it is measured.
     pub fn new(model: Model) -> Case {
         let plant = model.bytes();
         let [mut book, mut rest, out, before] = [(); 4].map(|()| vec![0; model.book_length()]);
@@ -36,7 +40,11 @@ impl Case {
         accepted(Fast.make(&plant, model.every_move() & !model.highest_move(), &mut rest).number);
         let masks = (0..16).map(|line| model.highest_move() >> (line * model.moves / 32)).collect();
         let states = vec![0; model.list_length()];
-        Case { model, plant, book, rest, masks, out, before, states, kept: 0 }
+        let [mut index, built] = [(); 2].map(|()| vec![0; LONGEST_INDEX]);
+        let answer = Fast.index(&plant, &mut index);
+        accepted(answer.number);
+        index.truncate(answer.length as usize);
+        Case { model, plant, book, rest, index, masks, out, before, states, built, kept: 0 }
     }
 
     /// How many states the plant has.
@@ -78,7 +86,7 @@ pub fn settled_cases(family: Family, states: u16, plants: u64, way: Settled) -> 
 pub type Call = fn(&dyn Calls, &mut Case) -> u32;
 
 /// The calls that are measured on all plants, with their names.
-pub const CALLS: [(&str, Call); 9] = [
+pub const CALLS: [(&str, Call); 12] = [
     ("make", make),
     ("withdraw", withdraw),
     ("preview", preview),
@@ -88,10 +96,14 @@ pub const CALLS: [(&str, Call); 9] = [
     ("singles", singles),
     ("union", union),
     ("consult", consult),
+    ("index", index),
+    ("indexed", make_indexed),
+    ("w-indexed", withdraw_indexed),
 ];
 
 /// The calls that are measured on plants that must settle.
-pub const SETTLED_CALLS: [(&str, Call); 2] = [("make", make), ("withdraw", withdraw)];
+pub const SETTLED_CALLS: [(&str, Call); 4] =
+    [("make", make), ("withdraw", withdraw), ("indexed", make_indexed), ("w-indexed", withdraw_indexed)];
 
 /// How many places are consulted in a book.
 const PLACES: usize = 32;
@@ -104,6 +116,24 @@ pub fn make(planner: &dyn Calls, case: &mut Case) -> u32 {
 pub fn withdraw(planner: &dyn Calls, case: &mut Case) -> u32 {
     let Case { model, plant, book, out, states, .. } = case;
     accepted(planner.withdraw(plant, book, model.highest_move(), out, states).number);
+    kept_in(out)
+}
+
+/// Answers how many states the plant's book keeps, with which it has nothing to do.
+fn index(planner: &dyn Calls, case: &mut Case) -> u32 {
+    accepted(planner.index(&case.plant, &mut case.built).number);
+    kept_in(&case.book)
+}
+
+fn make_indexed(planner: &dyn Calls, case: &mut Case) -> u32 {
+    let Case { model, plant, index, out, .. } = case;
+    accepted(planner.make_indexed(plant, index, model.every_move(), out).number);
+    kept_in(out)
+}
+
+fn withdraw_indexed(planner: &dyn Calls, case: &mut Case) -> u32 {
+    let Case { model, plant, index, book, out, states, .. } = case;
+    accepted(planner.withdraw_indexed(plant, index, book, model.highest_move(), out, states).number);
     kept_in(out)
 }
 

@@ -10,18 +10,20 @@
 //! costs, `remake` makes the same book afresh, and `return` puts the move back in it, which gives the first book again.
 //! `list` takes the upper half of the moves out of the book that was made, from the highest down, by one list of 16
 //! masks of one move each; `singles` does that by 16 withdrawals, each from the book of the one before, and `union` by
-//! one withdrawal of all these moves. `consult` is the mean over some states and goals. K is how many states the book
-//! keeps that is written last, previewed or consulted. A ratio above 1 says how many times as long the other solver
-//! takes as the first column does.
+//! one withdrawal of all these moves. `consult` is the mean over some states and goals. `index` builds the plant's
+//! index; `indexed` is `make` and `w-indexed` is `withdraw`, both by an index that was built before. K is how many states
+//! the book keeps that is written last, previewed or consulted. A ratio above 1 says how many times as long the other
+//! solver takes as the first column does.
 //!
 //! After a family's sizes stands the growth of each call from 512 states to 1,024, as an exponent: 1 is linear in the
 //! states, 2 quadratic. Then, with the most states, how many times as long a preview takes as withdraw, return as make,
-//! list as union, and singles as list. After all families stands how many times as long return takes as make: the
-//! geometric mean over all families and sizes.
+//! list as union, singles as list, and index, make by index and withdraw by index as make and withdraw without. After
+//! all families stands how many times as long return, make by index and withdraw by index take as make and withdraw:
+//! the geometric mean over all families and sizes.
 //!
 //! For each family stand then the plants that must settle, with the most states: with all states settled, with every
-//! other and with most; the most stages that one of them has; make and withdraw, and how many times as long as for the
-//! plants as they were they take (`to plain`).
+//! other and with most; the most stages that one of them has; make and withdraw, with and without an index, and how
+//! many times as long as for the plants as they were they take (`to plain`).
 //!
 //! After all families stand consult and moves for the longest plant: consult in a state that serves no goal (`in
 //! last`), and in one that serves all of them (`passing`); `check`, a make that is refused for want of room, so that it
@@ -31,9 +33,9 @@
 //! At the end stand plants that are slow to make, without settling and with it: one make each, in seconds, by all but
 //! the plain solver, and for slow families the growth of that from 512 states to 1,024.
 //!
-//! `bench --count FAMILY STATES [PLANTS [SOLVER]]` measures nothing: it makes one make and one withdrawal for each of
-//! so many plants of a family (twelve), by one solver (the first), for a tool that counts instructions, as
-//! `tests/counts.sh` does. `bench --families` prints the names of the families that are not slow, and
+//! `bench --count FAMILY STATES [PLANTS [SOLVER]]` measures nothing: it makes one make and one withdrawal, one index
+//! and one of each by it for each of so many plants of a family (twelve), by one solver (the first), for a tool that
+//! counts instructions, as `tests/counts.sh` does. `bench --families` prints the names of the families that are not slow, and
 //! `bench --only FAMILY...` measures no others.
 
 mod cases;
@@ -53,8 +55,19 @@ const SIZES: [u16; 4] = [64, 256, 512, 1024];
 /// How many plants of a family are measured in turn.
 const PLANTS: u64 = 12;
 
-/// Pairs of calls by their places in [`CALLS`]: how many times as long the first takes is printed.
-const RATIOS: [[usize; 2]; 4] = [[2, 1], [4, 0], [5, 7], [6, 5]];
+/// Pairs of calls by their names in [`CALLS`]: how many times as long the first takes as the second is printed.
+const RATIOS: [[&str; 2]; 7] = [
+    ["preview", "withdraw"],
+    ["return", "make"],
+    ["list", "union"],
+    ["singles", "list"],
+    ["index", "make"],
+    ["indexed", "make"],
+    ["w-indexed", "withdraw"],
+];
+
+/// Those of which the mean over all families and sizes is printed, too.
+const MEAN_RATIOS: [[&str; 2]; 3] = [["return", "make"], ["indexed", "make"], ["w-indexed", "withdraw"]];
 
 fn main() {
     #[cfg(feature = "linked")]
@@ -80,7 +93,9 @@ fn print_all(planners: &[&dyn Calls]) {
     for family in quick_families() {
         all.extend(print_family(planners, family));
     }
-    print_mean_ratio(RATIOS[1], &all);
+    for ratio in MEAN_RATIOS {
+        print_mean_ratio(ratio.map(place), &all);
+    }
     slow::print_lookups(planners);
     slow::print_slow(planners);
 }
@@ -99,6 +114,11 @@ fn quick_families() -> impl Iterator<Item = Family> {
     FAMILIES.into_iter().filter(|family| !family.is_slow())
 }
 
+/// The place of a call in [`CALLS`].
+fn place(name: &str) -> usize {
+    CALLS.iter().position(|call| call.0 == name).expect("the name of a call")
+}
+
 /// All sizes of a family; answers the figures of each.
 fn print_family(planners: &[&dyn Calls], family: Family) -> Vec<Vec<Figures>> {
     let mut sizes: Vec<Vec<Figures>> = Vec::new();
@@ -111,7 +131,7 @@ fn print_family(planners: &[&dyn Calls], family: Family) -> Vec<Vec<Figures>> {
     let [.., half, most] = &sizes[..] else { panic!("two sizes at least") };
     print_growth(family.name(), &CALLS, half, most);
     for ratio in RATIOS {
-        print_ratio(family.name(), &CALLS, ratio, most);
+        print_ratio(family.name(), &CALLS, ratio.map(place), most);
     }
     print_settled(planners, family, most);
     sizes
@@ -127,7 +147,8 @@ fn print_settled(planners: &[&dyn Calls], family: Family, plain: &[Figures]) {
         println!("{}, {}, stages {}", family.name(), way.name(), stages.unwrap_or(0));
         print_times(family.name(), &cases, &SETTLED_CALLS, &figures);
         for (call, (name, _)) in SETTLED_CALLS.iter().enumerate() {
-            let ratios = figures.iter().zip(plain).map(|(settled, plain)| settled.times[call] / plain.times[call]);
+            let plain = plain.iter().map(|plain| plain.times[place(name)]);
+            let ratios = figures.iter().zip(plain).map(|(settled, plain)| settled.times[call] / plain);
             print_line(family.name(), "to plain", name, ratios);
         }
     }

@@ -1,6 +1,6 @@
 //! Lists of withdrawals: random ones, and all of some kinds on strip plant P.
 
-use super::faults::Kind;
+use super::faults::{Kind, Writes};
 use super::{any_goal, any_length, any_plant, few_moves, invent_book, lengths_of, m9_book, many_moves};
 use super::{strip_and_book, tiny_plant, Comparison};
 use crate::calls::mask_bytes;
@@ -9,6 +9,7 @@ use crate::plants::{Model, Random};
 /// A list of withdrawals, and what it is refused with.
 const LIST: Kind = Kind {
     refusals: &[1, 2, 3, 4, 5, 9, 6, 7],
+    writes: Writes::BookAndList,
     compare: |comparison, call| comparison.withdraw_list(&call.plant, &call.book, &call.masks, call.lengths).0,
 };
 

@@ -1,19 +1,16 @@
 //! Returns of moves: random ones, and all of some kinds on strip plant P.
 
-use super::faults::Kind;
+use super::faults::{Kind, Writes};
 use super::{any_goal, any_length, any_plant, few_moves, invent_book, lengths_of, m9_book, many_moves};
 use super::{or_too_high, strip_and_book, tiny_plant};
 use crate::compare::{in_service, kept_count, Comparison};
 use crate::plants::{self, Model, Random};
-use crate::second::format::{read_masks, together};
 
 /// A return, and what it is refused with.
 const RETURN: Kind = Kind {
     refusals: &[1, 2, 3, 4, 5, 6, 7],
-    compare: |comparison, call| {
-        let masks = read_masks(&call.masks).expect("one mask");
-        comparison.return_moves(&call.plant, &call.book, together(&masks), call.lengths).0
-    },
+    writes: Writes::BookAndList,
+    compare: |comparison, call| comparison.return_moves(&call.plant, &call.book, call.mask(), call.lengths).0,
 };
 
 /// Moves to put back in service: mostly all that are out of it, or some of these; sometimes any.
