@@ -142,7 +142,7 @@ planbook_answer planbook_index(const uint8_t *plant, size_t plant_len, uint8_t *
 
 /*
  * Makes the very book that planbook_make makes, by the plant's index: states are struck out from a worklist, with the
- * arrows that end in each, where make reads all arrows again in every round. Refusals 1, 2, 3, 10, 6, 7.
+ * arrows that end in each, where make may look at all arrows again in each round. Refusals 1, 2, 3, 10, 6, 7.
  */
 planbook_answer planbook_make_indexed(const uint8_t *plant, size_t plant_len, const uint8_t *index, size_t index_len,
                                       uint32_t mask, uint8_t *book, size_t book_len);

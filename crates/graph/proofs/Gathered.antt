@@ -1,6 +1,6 @@
 -- Groups gathered by an index are sorted by their ends: of the arrows by end state, then by number, those whose moves are
 -- in service give the groups as the sort does. Assumes nothing.
-use mathlib.Core.Path.{_≡_, refl, sym, ap, ap₂, _∙_}
+use mathlib.Core.Path.{_≡_, refl, sym, ap, _∙_}
 use mathlib.Core.Logic.{⊎-elim}
 use mathlib.Core.Bool.{Bool, true, false}
 use mathlib.Core.List.{List, [], _∷_, _++_, map, append-nil}

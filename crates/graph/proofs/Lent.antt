@@ -1,29 +1,28 @@
 -- What gathering the groups by an index tells: whether the bytes lent are the plant's index, and if so the groups are
 -- sorted by their ends. Assumes nothing.
 use mathlib.Core.Path.{_≡_, refl, sym, ap, _∙_}
-use mathlib.Core.Logic.{⊎-elim}
-use mathlib.Core.Bool.{Bool, true, false, _&&_, true≢false}
-use mathlib.Core.List.{List, [], _∷_, map}
-use Prim.Native.Nat.{ℕ, zero, suc, _<_, _≤_}
+use mathlib.Core.Bool.{Bool, true, false, _&&_}
+use mathlib.Core.List.{List, map}
+use Prim.Native.Nat.{ℕ, _<_, _≤_}
 use native.Mathlib.Omega.{arith}
-use lib.Dec.{ltb, leb}
+use lib.Dec.{ltb}
 use lib.ListN.{length, getD, drop, length-map}
 use borrow.Author.Tests.{lt-ltb, le-leb}
-use Rattle.statements.specs.Sets.{pick, filter, over}
-use Rattle.statements.specs.Plants.{word, words, Plant, plantOf, headOk, plantFault}
+use Rattle.statements.specs.Sets.{pick, over}
+use Rattle.statements.specs.Plants.{word, Plant, plantOf, plantFault}
 use Rattle.statements.specs.Index.{indexBytes, sameBytes}
-use Rattle.sets.proofs.Tests.{decided, and-left, and-right}
+use Rattle.sets.proofs.Tests.{and-left, and-right}
 use Rattle.sets.proofs.Members.{filter-length}
 use Rattle.sets.proofs.Over.{over-back}
-use Rattle.decoding.proofs.Faults.{plant-tests}
+use Rattle.decoding.proofs.Faults.{plant-tests, words-length}
 use Rattle.decoding.proofs.Order.{arrows-length}
 use Rattle.layout.specs.Layout.{groupEnds, groupOwners, Front}
 use Rattle.sort.specs.Sorted.{sortedBy}
-use Rattle.index.specs.Checked.{keyOf, climbs, opensWell, numbersIn, ascends}
+use Rattle.index.specs.Checked.{opensWell, numbersIn, ascends}
 use Rattle.index.specs.Gathered.{climbed, taken, ready, gathers}
 use Rattle.decoding.proofs.Indexed.{same-iff}
 use Rattle.index.proofs.Exact.{ascends-exactly, index-numbers}
-use Rattle.index.proofs.Taken.{climbed-all}
+use Rattle.index.proofs.Taken.{climbed-all, gathers-exactly}
 use Rattle.graph.specs.Steps.{Gathered}
 use Rattle.graph.proofs.Links.{arrows-few}
 use Rattle.graph.proofs.Taken.{Own, taken-sorted}
@@ -34,10 +33,9 @@ unfolding taken
 taken-few by ns =
     omega (arith, filter-length (λ v. ltb v 65535) (map (λ n. getD by n 0) ns), length-map ns (λ n. getD by n 0))
 
-words-many : (n : ℕ) (s : List ℕ) → length (words n s) ≡ n
-unfolding words
-words-many zero s = refl
-words-many (suc n) s = ap suc (words-many n _)
+and-on : (b : Bool) → (b && true) ≡ b
+and-on true = refl
+and-on false = refl
 
 module _ (s index by rev : List ℕ) (fine : plantFault s ≡ 0) (bytes : (k : ℕ) → getD index k 0 < 256)
     (by-room : word 3 s ≤ length by) (room : word 3 s ≤ length rev) where
@@ -51,18 +49,16 @@ module _ (s index by rev : List ℕ) (fine : plantFault s ≡ 0) (bytes : (k : �
       let e = length (p .arrows) in
       let few = arrows-length s in
       rw (plant-tests s fine .0, le-leb e (length by) (omega (arith, few)), le-leb e (length rev) (omega (arith, few)))
-      (all (opensWell (p .states) e index))
-    where
-      all : (b : Bool) → (b && true) ≡ b
-      all true = refl
-      all false = refl
+      (and-on (opensWell (p .states) e index))
 
   -- so the groups are gathered just where the bytes are the index
   gathers-is : gathers s index by rev ≡ sameBytes index (indexBytes p)
-  unfolding gathers ascends
   gathers-is =
-      ap (λ (b : Bool). b && climbs p 0 (numbersIn p index)) ready-is
-      ∙ ascends-exactly s fine index bytes
+      let e = length (p .arrows) in
+      let few = arrows-length s in
+      gathers-exactly s fine index by rev bytes
+      ∙ rw (le-leb e (length by) (omega (arith, few)), le-leb e (length rev) (omega (arith, few)))
+      (and-on (sameBytes index (indexBytes p)))
 
   -- and their number is small
   taken-small : length (taken by (numbersIn p index)) < 65535
@@ -70,7 +66,7 @@ module _ (s index by rev : List ℕ) (fine : plantFault s ≡ 0) (bytes : (k : �
       omega (
         arith,
         taken-few by (numbersIn p index),
-        words-many (length (p .arrows)) (drop 8 index),
+        words-length (length (p .arrows)) (drop 8 index),
         arrows-few s fine,
       )
 

@@ -2,22 +2,22 @@
 use mathlib.Core.Path.{_≡_, refl, sym, ap, ap₂, _∙_}
 use mathlib.Core.Bool.{Bool, true, false}
 use mathlib.Core.List.{List, [], _∷_, _++_, map}
-use Prim.Native.Nat.{ℕ, zero, suc, _+_, _<_, _≤_}
+use Prim.Native.Nat.{ℕ, zero, suc, _+_, _<_}
 use native.Mathlib.Nat.{zero-add}
 use native.Mathlib.Omega.{arith}
 use lib.Dec.{eqb, ltb}
-use lib.ListN.{length, getD, take}
+use lib.ListN.{length, getD}
 use lib.Seq.{getD-take}
 use Rattle.statements.specs.Sets.{pick, numbers, joined, consIf, isIn, filter, over}
-use Rattle.statements.specs.Plants.{word, Arrow, plantOf, plantFault}
-use Rattle.statements.specs.Index.{arrowsTo, byEnd, endOf}
+use Rattle.statements.specs.Plants.{word, plantOf, plantFault}
+use Rattle.statements.specs.Index.{arrowsTo, byEnd}
 use Rattle.sets.proofs.Members.{isIn-here, isIn-there, filter-holds, numbers-holds}
 use Rattle.sets.proofs.Joined.{joined-same, joined-length, joined-at}
 use Rattle.sets.proofs.Over.{over-first}
 use Rattle.format.specs.Arrows.{arrowIn}
 use Rattle.format.proofs.Header.{plant-states}
 use Rattle.decoding.proofs.Order.{arrows-length}
-use Rattle.layout.specs.Layout.{groupStates, groupEnds, groupSizes, groupOwners, Front}
+use Rattle.layout.specs.Layout.{groupEnds, groupSizes, groupOwners, Front}
 use Rattle.layout.specs.Dealing.{servedAt, servedTo, dealtTo, dealt}
 use Rattle.layout.proofs.Served.{served-ends, served-place}
 use Rattle.layout.proofs.Closing.{ends-length, numbered-length}

@@ -2,7 +2,7 @@
 -- The pass over the arrows is followed, in lists as long as need be. Assumes nothing.
 use mathlib.Core.Path.{_≡_, refl, sym, ap, _∙_}
 use mathlib.Core.Logic.{⊎-elim}
-use mathlib.Core.Bool.{Bool, true, false, true≢false}
+use mathlib.Core.Bool.{true, false, true≢false}
 use mathlib.Core.List.{List}
 use Prim.Native.Nat.{ℕ, zero, suc, _+_, _-_, _<_, _≤_}
 use native.Mathlib.Numerals.{add-one}
@@ -16,9 +16,9 @@ use Rattle.sets.proofs.Tests.{same-number}
 use Rattle.decoding.proofs.Faults.{plant-tests}
 use Rattle.format.specs.declared.arrows.Arrow.{Arrow as ReadArrow}
 use Rattle.format.specs.Arrows.{arrowIn}
-use Rattle.format.specs.Checks.{arrowsFine, leastAfter}
-use Rattle.format.proofs.Header.{PlantHead, plant-head}
-use Rattle.layout.specs.Layout.{groupEnds, groupSizes, total}
+use Rattle.format.specs.Checks.{leastAfter}
+use Rattle.format.proofs.Header.{plant-head}
+use Rattle.layout.specs.Layout.{groupEnds}
 use Rattle.layout.specs.Dealing.{servedAt, servedTo}
 use Rattle.layout.proofs.Turns.{Spare}
 use Rattle.layout.proofs.Passed.{key, Passed, Taken, pass-start, pass-turn, pass-refused, pass-end}

@@ -1,6 +1,6 @@
 -- `graph::by_index` meets its contract: where all arrows are in service the groups that own the ends are the arrows' own,
 -- and otherwise they are dealt. Assumes nothing.
-use mathlib.Core.Path.{_≡_, sym, _∙_}
+use mathlib.Core.Path.{sym, _∙_}
 use Prim.Native.Nat.{ℕ, _<_, _≤_}
 use native.Mathlib.Omega.{arith}
 use borrow.Author.Needs.{needs}

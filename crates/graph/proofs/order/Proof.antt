@@ -1,8 +1,6 @@
 -- `graph::order` meets its contract: the groups are gathered by the index, or sorted. Assumes nothing.
-use mathlib.Core.Path.{_≡_, refl, sym, ap, _∙_}
-use mathlib.Core.Bool.{Bool, true}
-use mathlib.Core.List.{List}
-use Prim.Native.Nat.{ℕ, _<_, _≤_}
+use mathlib.Core.Path.{refl, sym, ap}
+use Prim.Native.Nat.{_≤_}
 use native.Mathlib.Omega.{arith}
 use borrow.Author.Needs.{needs}
 use denote.Ref.{now}
@@ -12,7 +10,6 @@ use Rattle.statements.specs.Plants.{word, plantOf}
 use Rattle.decoding.proofs.Faults.{states-few}
 use Rattle.format.proofs.Header.{plant-states}
 use Rattle.decoding.proofs.Order.{arrows-length}
-use Rattle.layout.specs.Layout.{groupOwners, Front}
 use Rattle.sort.specs.Sorted.{sortedBy}
 use Rattle.sort.proofs.Fitting.{sortable-yes, countable-yes}
 use Rattle.graph.specs.Packed.{lent}

@@ -1,6 +1,6 @@
 -- `layout::deal::deal` meets its contract. The loop's invariant: the arrows passed are dealt their numbers.
 -- Assumes nothing.
-use mathlib.Core.Path.{_≡_, refl, sym}
+use mathlib.Core.Path.{_≡_, refl}
 use Prim.Native.Nat.{_-_, _<_, _≤_}
 use native.Mathlib.Omega.{arith}
 use borrow.Author.Needs.{needs}
