@@ -107,10 +107,6 @@ module _ (can : Can) (all : List ℕ) where
     unfolding attracted
     attracted-within = reached-within (length all)
 
-    pub attracted-sifted : (base : List ℕ) → Sifted base all → Sifted all (attracted can done goal all)
-    unfolding attracted
-    attracted-sifted base s = reached-sifted (length all)
-
     pub attracted-closed : (x : ℕ) → isIn x all ≡ true → can (attracted can done goal all) x ≡ true
         → isIn x (attracted can done goal all) ≡ true
     unfolding attracted

@@ -1,17 +1,18 @@
 -- What is left when nodes that cannot go on are struck out until there are none: the greatest part of a set all of
--- whose nodes go on within it. A round that strikes them out too has the same nodes left in the end. Assumes nothing.
-use mathlib.Core.Path.{_≡_}
+-- whose nodes go on within it. Where a goal's turn strikes them out too the same nodes are left in the end. Assumes
+-- nothing.
+use mathlib.Core.Path.{_≡_, refl}
 use mathlib.Core.Logic.{_⊎_, inl, inr, ⊎-elim}
 use mathlib.Core.Bool.{Bool, true, _&&_, _||_}
 use mathlib.Core.List.{List, _∷_}
-use Prim.Native.Nat.{ℕ, zero, suc, _≤_, _<_}
+use Prim.Native.Nat.{ℕ, zero, suc, _+_, _≤_, _<_}
 use native.Mathlib.Omega.{arith}
 use lib.ListN.{length}
 use Rattle.statements.specs.Sets.{numbers, iterate, isIn}
 use Rattle.sets.proofs.Tests.{and-left, and-right, and-true, or-left, or-right, or-cases}
 use Rattle.sets.proofs.Members.{Sifted, sifted-sub, sifted-same, filter-holds, filter-in, isIn-here, isIn-there}
 use Rattle.sets.proofs.Members.{isIn-cases}
-use Rattle.sets.proofs.Iterate.{iterate-keeps, iterate-sifted, shrunk-full, sifted-few, sifted-longer}
+use Rattle.sets.proofs.Iterate.{iterate-keeps, iterate-sifted, shrunk-full, sifted-few, sifted-longer, sifted-as-long}
 use Rattle.game.specs.Game.{Can, aims, reachedIn, attracted, attractedAll, heldAfter}
 use Rattle.game.specs.Playing.{Leaves}
 use Rattle.game.specs.Draining.{movesOn, drained}
@@ -141,12 +142,13 @@ module _ (can : Can) (done : ℕ → Bool) where
     unfolding attracted
     attracted-moves goal all x m = reached-moves goal all (length all) x m
 
--- what a round may leave of a set: at most the nodes from which every goal is forced, and at least those that are left
--- in the end
-pub record Reduced (can : Can) (done : ℕ → Bool) (goal : ℕ → ℕ → Bool) (n goals : ℕ) (old new : List ℕ) : Type 0 where
+-- what may be left of a set when the goals from `first` up to `end` are reached within it: at most the nodes from which
+-- each of these is forced, and at least those that are left in the end
+pub record Reduced (can : Can) (done : ℕ → Bool) (goal : ℕ → ℕ → Bool) (n goals first end : ℕ) (old new : List ℕ)
+    : Type 0 where
   pub sifted : Sifted (numbers n 0) new
   pub leaves : Leaves can old new
-  pub forced : Sub new (attractedAll goals can done goal old)
+  pub forced : (i : ℕ) → first ≤ i → i < end → Sub new (attracted can done (goal i) old)
   pub held : heldAfter n goals can done goal new ≡ heldAfter n goals can done goal old
 
 module _ (can : Can) (done : ℕ → Bool) (goal : ℕ → ℕ → Bool) (n goals : ℕ) (more : Rises can) where
@@ -202,56 +204,86 @@ module _ (can : Can) (done : ℕ → Bool) (goal : ℕ → ℕ → Bool) (n goal
         (last-greatest set sifted new (λ x m. within x (last-within part s x m)) (λ x m. rw (last-still part s) m))
         (last-greatest part s old spared (λ x m. rw (last-still set sifted) m))
 
-    -- a round
-    pub round-reduced : Reduced can done goal n goals set round
+    -- all goals are reached, and nothing else is struck out
+    pub round-reduced : Reduced can done goal n goals 0 goals set round
     round-reduced =
         record {
           sifted = all-sifted can done goal goals (numbers n 0) set sifted;
           leaves = round-leaves can done goal goals set more;
-          forced = λ x m. m;
+          forced = λ i a b x m. all-holds can done goal goals set x m .1 i b;
           held = round-held can done goal n goals set sifted;
         }
 
-    -- a round that also strikes out what then cannot go on
-    module _ (some-goal : 0 < goals) where
+    -- one goal is reached, and what then cannot go on is struck out too
+    module _ (g : ℕ) (low : g < goals) where
+      -- the nodes from which it is forced
+      abbrev cut : List ℕ
+      cut = attractedAll 1 can done (λ i. goal g) set
+
       abbrev left : List ℕ
-      left = drained can done round
+      left = drained can done cut
+
+      cut-holds : (x : ℕ) → isIn x cut ≡ true → isIn x (attracted can done (goal g) set) ≡ true
+      cut-holds x m = all-holds can done (λ i. goal g) 1 set x m .1 0 (omega arith)
 
       left-within : Sub left set
-      left-within x m = all-holds can done goal goals set x (drained-within can done round x m) .0
+      left-within x m = all-holds can done (λ i. goal g) 1 set x (drained-within can done cut x m) .0
 
       left-spares : Sub (heldAfter n goals can done goal set) left
       left-spares =
           let old = heldAfter n goals can done goal set in
-          drained-greatest can done more old round
-          (λ x m. all-more old set (last-within set sifted) x (rw (last-still set sifted) m))
+          let forced : Sub old (attracted can done (goal g) old) =
+          λ x m. all-holds can done goal goals old x (rw (last-still set sifted) m) .1 g low in
+          drained-greatest can done more old cut
           (λ x m.
-          attracted-moves can done more (goal 0) old x
-          (all-holds can done goal goals old x (rw (last-still set sifted) m) .1 0 some-goal))
+          all-in can done (λ i. goal g) 1 set x (last-within set sifted x m)
+          (λ i l. attracted-more can done more (goal g) old set (last-within set sifted) x (forced x m)))
+          (λ x m. attracted-moves can done more (goal g) old x (forced x m))
 
-      pub drained-reduced : Reduced can done goal n goals set left
-      drained-reduced =
-          let whole = all-sifted can done goal goals (numbers n 0) set sifted in
-          let sieve = drained-sifted can done (numbers n 0) round whole in
+      pub goal-reduced : Reduced can done goal n goals g (g + 1) set left
+      goal-reduced =
+          let whole = all-sifted can done (λ i. goal g) 1 (numbers n 0) set sifted in
+          let sieve = drained-sifted can done (numbers n 0) cut whole in
           record {
             sifted = sieve;
             leaves =
                 record {
                   within = left-within;
                   closed = λ ys x s a h.
-                      drained-closed can done more (numbers n 0) round ys whole x s
-                      (round-leaves can done goal goals set more .closed ys x
-                      (λ y k. drained-within can done round y (s y k)) a h) h;
+                      drained-closed can done more (numbers n 0) cut ys whole x s
+                      (round-leaves can done (λ i. goal g) 1 set more .closed ys x
+                      (λ y k. drained-within can done cut y (s y k)) a h) h;
                 };
-            forced = drained-within can done round;
+            forced = λ i a b x m.
+                let same : i ≡ g = omega arith in rw same (cut-holds x (drained-within can done cut x m));
             held = same-last left sieve left-within left-spares;
           }
 
-    -- where as many nodes are left as there were, these are left in the end
-    pub reduced-still : (new : List ℕ) → Reduced can done goal n goals set new → length set ≤ length new
+    -- nothing is struck out
+    pub none-reduced : (first end : ℕ)
+        → ((i : ℕ) → first ≤ i → i < end → Sub set (attracted can done (goal i) set))
+        → Reduced can done goal n goals first end set set
+    none-reduced first end forced =
+        record {
+          sifted = sifted;
+          leaves = record { within = λ x m. m; closed = λ ys x s a h. a };
+          forced = forced;
+          held = refl;
+        }
+
+    -- as many nodes are left as there were
+    pub reduced-still : (first end : ℕ) (new : List ℕ) → Reduced can done goal n goals first end set new
+        → length set ≤ length new → (i : ℕ) → first ≤ i → i < end → Sub set (attracted can done (goal i) set)
+    reduced-still first end new r l i a b x m =
+        let less = sifted-longer (numbers n 0) new set (r .sifted) sifted (r .leaves .within) in
+        let same =
+        sifted-as-long (numbers n 0) new set (r .sifted) sifted (r .leaves .within) (omega (arith, less)) in
+        r .forced i a b x (rw same m)
+
+    -- each goal is forced from each node: these are left in the end
+    pub forced-held : ((i : ℕ) → i < goals → Sub set (attracted can done (goal i) set))
         → heldAfter n goals can done goal set ≡ set
-    reduced-still new r l =
-        let less =
-        sifted-longer (numbers n 0) new round (r .sifted)
-        (all-sifted can done goal goals (numbers n 0) set sifted) (r .forced) in
-        round-still can done goal n goals set sifted (omega (arith, less))
+    forced-held forced =
+        round-still can done goal n goals set sifted
+        (sifted-longer (numbers n 0) set round sifted (all-sifted can done goal goals (numbers n 0) set sifted)
+        (λ x m. all-in can done goal goals set x m (λ i l. forced i l x m)))

@@ -32,5 +32,6 @@ pub mod Emptying
 pub mod Emptied
 pub mod Shrinking
 pub mod Plays
+pub mod Goals
 pub mod Playable
 pub mod Examples

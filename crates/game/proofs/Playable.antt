@@ -9,7 +9,7 @@ use borrow.Author.Tests.{lt-ltb, ltb-true, leb-true, eq-eqb, eqb-true}
 use lib.Dec.{eqb, ltb, leb}
 use lib.ListN.{length, getD, take}
 use lib.Seq.{length-take-le, getD-take, take-length}
-use Rattle.statements.specs.Sets.{numbers, every, isIn, over}
+use Rattle.statements.specs.Sets.{numbers, every, isIn}
 use Rattle.sets.proofs.Tests.{decided, same-number, not-both, and-iff, same-test}
 use Rattle.sets.proofs.Members.{Sifted}
 use Rattle.sets.proofs.Numbers.{every-at, every-all}
@@ -20,8 +20,7 @@ use Rattle.arrays.proofs.Ordered.{rising-sifted}
 use Rattle.game.specs.Walked.{nodes, ordered, allBelow}
 use Rattle.game.specs.Steps.{Index}
 use Rattle.game.specs.Packed.{placesIn, groupsIn, revIn, startsIn, roomyFor, hypergraph, soundIn, playable}
-use Rattle.game.specs.Packed.{heldIn, waitsIn}
-use Rattle.game.specs.Playing.{Fits, Ready, Tested, Worked}
+use Rattle.game.specs.Playing.{Fits, Ready, Tested, Worked, Played}
 use Rattle.game.proofs.Counts.{count-none, count-zero, in-take}
 use Rattle.game.proofs.Checks.{below-at}
 use Rattle.game.proofs.Aiming.{listed}
@@ -191,7 +190,5 @@ module _ (graph : List ℕ) (n groups positions goals : ℕ) (start old : List �
   unplayable e = record { kept = rw e; waits = rw e }
 
   pub played : playable graph n groups positions goals start (length old) ≡ true → (r : ℕ) (w : List ℕ)
-      → (r ≡ length (heldIn graph n groups positions goals start))
-      × (w ≡ over (waitsIn graph n groups positions goals (heldIn graph n groups positions goals start)) old)
-      → Worked graph n groups positions goals start old r w
-  played e r w is = record { kept = rw e (is .0); waits = rw e (is .1) }
+      → Played graph n groups positions goals start old r w → Worked graph n groups positions goals start old r w
+  played e r w is = record { kept = rw e (is .number); waits = rw e (is .waits) }

@@ -1,30 +1,32 @@
--- The rounds of a packed game: what a round strikes out, and what the last one leaves. Assumes nothing.
+-- The turns of a packed game: what is known before one, what a round strikes out, and what the last one leaves. Assumes
+-- nothing.
 use mathlib.Core.Path.{_≡_, refl, sym, ap, _∙_, subst}
 use mathlib.Core.Logic.{inl, inr, ⊎-elim}
 use mathlib.Core.Bool.{Bool, true, false, not}
-use mathlib.Core.List.{List}
+use mathlib.Core.List.{List, []}
 use Prim.Native.Nat.{ℕ, _+_, _-_, _*_, _≤_, _<_}
 use native.Mathlib.Omega.{arith}
 use borrow.Author.Tests.{ltb-true}
 use lib.ListN.{length, getD, take, replicate, length-replicate}
 use lib.Seq.{length-take-le, getD-drop}
-use Rattle.statements.specs.Sets.{numbers, pick, isIn, filter, over}
+use Rattle.statements.specs.Sets.{numbers, isIn, filter, over}
 use Rattle.sets.proofs.Members.{Sifted, filter-length, filter-in}
 use Rattle.sets.proofs.Iterate.{sifted-few, sifted-below}
 use Rattle.sets.proofs.Over.{over-length, over-back}
 use Rattle.arrays.specs.Lists.{fitting}
 use Rattle.arrays.proofs.Guards.{fitting-yes}
-use Rattle.game.specs.Game.{Can, attractedAll}
+use Rattle.game.specs.Game.{Can, attracted, attractedAll, heldAfter, stepsTo}
 use Rattle.game.specs.Packed.{groupsIn, revIn, startsIn, labelsIn, goalOf, overAt, canIn, heldIn, waitsIn}
 use Rattle.game.specs.Marks.{Marked, without}
 use Rattle.game.specs.Cuts.{waitsAll}
-use Rattle.game.specs.Draining.{drained, GoesOn}
-use Rattle.game.specs.Playing.{Ready, Fresh, RoundIn, Standing, Rest, lastEight}
-use Rattle.game.proofs.Parts.{groups-length, starts-nodes}
+use Rattle.game.specs.Draining.{GoesOn}
+use Rattle.game.specs.Playing.{Ready, Fresh, Played, Reached, SoughtIn, Standing, Rest, lastEight}
+use Rattle.game.proofs.Attractors.{Sub}
+use Rattle.game.proofs.Parts.{groups-length, starts-nodes, fresh-made}
 use Rattle.game.proofs.Rounds.{all-holds, cut-round}
-use Rattle.game.proofs.Drained.{Rises, attracted-moves, Reduced, round-reduced, drained-reduced}
-use Rattle.game.proofs.Playing.{round-begin, round-next, round-end, columns-over}
-use Rattle.game.proofs.Standing.{can-more, live-can, member-can, without-failing}
+use Rattle.game.proofs.Drained.{Rises, attracted-moves, Reduced, round-reduced, reduced-still, forced-held}
+use Rattle.game.proofs.Playing.{Round, round-begin, round-next, columns-over}
+use Rattle.game.proofs.Standing.{can-more, can-nothing, live-can, member-can, without-failing}
 
 -- a set at the front of a list has no more nodes than there are
 pub front-few : (n kept : ℕ) (list : List ℕ) → kept ≤ length list → Sifted (numbers n 0) (take kept list) → kept ≤ n
@@ -80,11 +82,14 @@ module _ (graph : List ℕ) (nodes groups positions goals : ℕ) where
   MarkedIn set member live dead =
       Marked (groupsIn graph groups) (startsIn graph nodes) (revIn graph positions) set member live dead
 
-  -- a round is about to begin: its set at the front of the list, marked, and what the rounds before have left
+  abbrev pub RoundIn : List ℕ → List ℕ → List ℕ → List ℕ → Type 0
+  RoundIn start set last waits = Round can done goal nodes goals start set last waits
+
+  -- a turn is about to begin: its set at the front of the list, marked, and what the turns before have left
   pub record Outset (start waits₀ member live dead waits scratch queue list : List ℕ) (kept : ℕ) : Type 0 where
     pub room : kept ≤ length list
     pub marked : MarkedIn (take kept list) member live dead
-    pub round : RoundIn graph nodes groups positions goals start (take kept list) 0 (lastEight scratch) waits
+    pub round : RoundIn start (take kept list) (lastEight scratch) waits
     pub rest : Rest (goals * nodes) waits₀ waits
     pub scratch-long : groups + 8 ≤ length scratch
     pub queue-long : length queue ≡ 1024
@@ -106,7 +111,7 @@ module _ (graph : List ℕ) (nodes groups positions goals : ℕ) where
               (λ g l. ready .full g (omega (arith, gl))) set member live dead m x (omega (arith, few)),
         )
 
-    -- the first round
+    -- the first turn
     pub first-round : (start waits member live dead scratch list old : List ℕ) → Sifted (numbers nodes 0) start
         → MarkedIn start member live dead → length member ≡ 1024 → length live ≡ 1024
         → Fresh (groups + 8) 65535 scratch → length old ≡ 1024 → list ≡ over (fitting start old) old
@@ -120,10 +125,9 @@ module _ (graph : List ℕ) (nodes groups positions goals : ℕ) where
           marked = subst (λ (set : List ℕ). MarkedIn set member live dead) (sym front) m;
           round =
               subst
-              (λ (set : List ℕ).
-              RoundIn graph nodes groups positions goals start set 0 (lastEight scratch) waits)
+              (λ (set : List ℕ). RoundIn start set (lastEight scratch) waits)
               (sym front)
-              (round-begin can done goal nodes goals start (ready .fits .few-nodes) (lastEight scratch) waits s
+              (round-begin can done goal nodes goals start (lastEight scratch) waits s
               (λ i l. last-new groups scratch f i (omega (arith, ready .few-goals))));
           rest = record { long = refl; stays = refl };
           scratch-long = f .long;
@@ -133,76 +137,102 @@ module _ (graph : List ℕ) (nodes groups positions goals : ℕ) where
           live-long = ll;
         }
 
-    -- all goals are reached
-    module _ (start set last waits : List ℕ)
-        (r : RoundIn graph nodes groups positions goals start set goals last waits) where
-      cut-is : filter (waitsAll waits nodes goals) set ≡ attractedAll goals can done goal set
-      cut-is =
-          cut-round can done goal nodes goals set (r .sifted) (ready .fits .few-nodes) waits
-          (λ i x hi hx. r .reached i hi .column x hx)
+    -- what is asked when the set begins
+    pub set-begins : (start dead : List ℕ) → Sifted (numbers nodes 0) start → Fresh groups 0 dead
+        → Ready graph nodes groups positions goals
+        × (Sifted (numbers nodes 0) start
+        × (Fresh nodes 65535 (replicate 1024 65535) × (Fresh nodes 0 (replicate 1024 0) × Fresh groups 0 dead)))
+    set-begins start dead s f =
+        let few = ready .fits .few-nodes in
+        (ready, (s, (fresh-made nodes 65535 1024 few, (fresh-made nodes 0 1024 few, f))))
 
-      rises : Rises can
-      unfolding canIn
-      rises = can-more (groupsIn graph groups) (startsIn graph nodes) (revIn graph positions)
+    -- more nodes to go on into, and none
+    pub rises : Rises can
+    unfolding canIn
+    rises = can-more (groupsIn graph groups) (startsIn graph nodes) (revIn graph positions)
 
-      -- a node with a wait for each goes on within the set
-      pub waits-on : (member live dead : List ℕ) → MarkedIn set member live dead
-          → GoesOn (waitsAll waits nodes goals) (labelsIn graph nodes) set live
-      unfolding canIn
-      waits-on member live dead m x a w =
-          let forced : isIn x (attractedAll goals can done goal set) ≡ true =
-          rw (← cut-is) (filter-in (waitsAll waits nodes goals) set x a w) in
-          let low = sifted-below nodes set (r .sifted) x a in
-          let gl = groups-length graph (ready .fits) in
-          ⊎-elim
-          (λ d. inl d)
-          (λ h.
-          inr (ltb-true 0 (getD live x 0)
-          (live-can (groupsIn graph groups) (startsIn graph nodes) (revIn graph positions)
-          (λ g l. ready .full g (omega (arith, gl))) set member live dead m x
-          (omega (arith, low, starts-nodes graph (ready .fits)))
-          ∙ h)))
-          (attracted-moves can done rises (goal 0) set x
-          (all-holds can done goal goals set x forced .1 0 (ready .some-goal)))
+    pub nothing : (x : ℕ) → can [] x ≡ false
+    unfolding canIn
+    nothing = can-nothing (groupsIn graph groups) (startsIn graph nodes) (revIn graph positions)
 
-      -- the nodes with a wait for each are left, or those of them that go on
-      module _ (eager : Bool) (left : List ℕ)
-          (cut : left
-          ≡ pick eager (drained can done (filter (waitsAll waits nodes goals) set))
-          (filter (waitsAll waits nodes goals) set)) where
-        reduced : Reduced can done goal nodes goals set left
+    -- the columns of some goals that are reached within a set
+    module _ (set : List ℕ) (sifted : Sifted (numbers nodes 0) set) (aim : ℕ → ℕ → Bool) (width : ℕ) (some : 0 < width)
+        (waits : List ℕ)
+        (columns : (i x : ℕ) → i < width → x < nodes → getD waits (i * nodes + x) 0 ≡ stepsTo can done (aim i) set x)
+      where
+        -- the nodes with a wait for each are those from which each is forced
+        pub cut-is : filter (waitsAll waits nodes width) set ≡ attractedAll width can done aim set
+        cut-is = cut-round can done aim nodes width set sifted (ready .fits .few-nodes) waits columns
+
+        -- and such a node goes on within the set
+        pub waits-on : (member live dead : List ℕ) → MarkedIn set member live dead
+            → GoesOn (waitsAll waits nodes width) (labelsIn graph nodes) set live
+        unfolding canIn
+        waits-on member live dead m x a w =
+            let forced : isIn x (attractedAll width can done aim set) ≡ true =
+            rw (← cut-is) (filter-in (waitsAll waits nodes width) set x a w) in
+            let low = sifted-below nodes set sifted x a in
+            let gl = groups-length graph (ready .fits) in
+            ⊎-elim
+            (λ d. inl d)
+            (λ h.
+            inr (ltb-true 0 (getD live x 0)
+            (live-can (groupsIn graph groups) (startsIn graph nodes) (revIn graph positions)
+            (λ g l. ready .full g (omega (arith, gl))) set member live dead m x
+            (omega (arith, low, starts-nodes graph (ready .fits)))
+            ∙ h)))
+            (attracted-moves can done rises (aim 0) set x (all-holds can done aim width set x forced .1 0 some))
+
+    -- each goal is reached within a set and forced from each of its nodes: these are left in the end
+    module _ (start set last waits : List ℕ) (sifted : Sifted (numbers nodes 0) set)
+        (same : heldAfter nodes goals can done goal set ≡ heldAfter nodes goals can done goal start)
+        (reached : (i : ℕ) → i < goals → Reached can done goal nodes set i last waits)
+        (forced : (i : ℕ) → i < goals → Sub set (attracted can done (goal i) set)) where
+      all-held : heldIn graph nodes groups positions goals start ≡ set
+      unfolding heldIn
+      all-held = sym same ∙ forced-held can done goal nodes goals rises set sifted forced
+
+      -- and the waits are theirs
+      pub all-played : (old : List ℕ) (kept : ℕ) → length set ≡ kept → goals * nodes ≤ length old
+          → Rest (goals * nodes) old waits → Played graph nodes groups positions goals start old kept waits
+      unfolding waitsIn
+      all-played old kept size room rest =
+          record {
+            number = sym (ap length all-held ∙ size);
+            waits =
+                subst
+                (λ (all : List ℕ). waits ≡ over (waitsIn graph nodes groups positions goals all) old)
+                (sym all-held)
+                (columns-over can done goal nodes goals set old waits (λ i x hi hx. reached i hi .column x hx)
+                (omega (arith, rest .long)) (rest .stays));
+          }
+
+    -- a round reaches all goals
+    module _ (start set last waits last' waits' : List ℕ) (r : RoundIn start set last waits)
+        (k : SoughtIn graph nodes groups positions set 0 goals last waits last' waits') where
+      round-reached : (i : ℕ) → i < goals → Reached can done goal nodes set i last' waits'
+      round-reached i h = k .reached i (omega arith) h (r .older i h)
+
+      round-cut : filter (waitsAll waits' nodes goals) set ≡ attractedAll goals can done goal set
+      round-cut =
+          cut-is set (r .sifted) goal goals (ready .some-goal) waits' (λ i x hi hx. round-reached i hi .column x hx)
+
+      -- the nodes with a wait for each are left
+      module _ (left : List ℕ) (cut : left ≡ filter (waitsAll waits' nodes goals) set) where
+        reduced : Reduced can done goal nodes goals 0 goals set left
         reduced =
-            subst (Reduced can done goal nodes goals set)
-            (sym (cut ∙ ap (λ (ys : List ℕ). pick eager (drained can done ys) ys) cut-is)) (both eager)
-          where
-            both : (b : Bool)
-                → Reduced can done goal nodes goals set
-                (pick b (drained can done (attractedAll goals can done goal set))
-                (attractedAll goals can done goal set))
-            both true = drained-reduced can done goal nodes goals rises set (r .sifted) (ready .some-goal)
-            both false = round-reduced can done goal nodes goals rises set (r .sifted)
+            subst (Reduced can done goal nodes goals 0 goals set)
+            (sym (cut ∙ round-cut)) (round-reduced can done goal nodes goals rises set (r .sifted))
 
         -- the next round is about them
-        pub next-round : RoundIn graph nodes groups positions goals start left 0 last waits
-        next-round =
-            round-next can done goal nodes goals start (ready .fits .few-nodes) set last waits r left reduced
+        pub next-round : RoundIn start left last' waits'
+        next-round = round-next can done goal nodes goals start set left last waits last' waits' 0 goals r k reduced
 
-        -- or they are as many as before
-        module _ (still : length set ≤ length left) where
-          pub last-held : heldIn graph nodes groups positions goals start ≡ set
-          unfolding heldIn
-          last-held =
-              round-end can done goal nodes goals start (ready .fits .few-nodes) set last waits r left reduced rises
-              still
-
-          -- and the waits are those of the nodes left in the end
-          pub last-waits : (old : List ℕ) → goals * nodes ≤ length old → Rest (goals * nodes) old waits
-              → waits
-              ≡ over (waitsIn graph nodes groups positions goals (heldIn graph nodes groups positions goals start)) old
-          unfolding waitsIn
-          last-waits old room rest =
-              subst
-              (λ (all : List ℕ). waits ≡ over (waitsIn graph nodes groups positions goals all) old)
-              (sym last-held)
-              (columns-over can done goal nodes goals set old waits (λ i x hi hx. r .reached i hi .column x hx)
-              (omega (arith, rest .long)) (rest .stays))
+        -- or they are as many as before, and these are left in the end
+        pub last-played : length set ≤ length left → (old : List ℕ) (kept : ℕ) → length set ≡ kept
+            → goals * nodes ≤ length old → Rest (goals * nodes) old waits'
+            → Played graph nodes groups positions goals start old kept waits'
+        last-played still =
+            all-played start set last' waits' (r .sifted) (r .same) round-reached
+            (λ i h.
+            reduced-still can done goal nodes goals rises set (r .sifted) 0 goals left reduced still i (omega arith) h)

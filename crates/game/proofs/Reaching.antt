@@ -9,7 +9,7 @@ use native.Mathlib.Omega.{arith}
 use borrow.Author.Tests.{eq-eqb, ne-eqb, le-ltb}
 use lib.Dec.{eqb, ltb}
 use lib.ListN.{getD, replicate}
-use Rattle.statements.specs.Sets.{numbers, first, iterate, isIn, filter}
+use Rattle.statements.specs.Sets.{numbers, iterate, isIn, filter}
 use Rattle.sets.proofs.Tests.{decided, not-both}
 use Rattle.sets.proofs.Members.{Sifted, filter-filter}
 use Rattle.sets.proofs.First.{first-alike}

@@ -1,4 +1,4 @@
--- One round, goal by goal: what is known before each, and how a goal is passed over or reached. Assumes nothing.
+-- Goal by goal within one set: what is known before each, and how a goal is passed over or reached. Assumes nothing.
 use mathlib.Core.Path.{_≡_, refl, sym, ap, subst, _∙_}
 use mathlib.Core.Logic.{_⊎_, inl, inr}
 use mathlib.Core.Bool.{Bool, _&&_}
@@ -19,9 +19,9 @@ use Rattle.game.specs.Walked.{nodes, canEnter, waitOf, walkedWaits}
 use Rattle.game.specs.Game.{aims, stepsTo}
 use Rattle.game.specs.Packed.{groupsIn, revIn, startsIn, labelsIn, goalOf, overAt, canIn}
 use Rattle.game.proofs.Aiming.{aimed}
-use Rattle.game.specs.Playing.{Ready, RoundIn, Standing, Rest, lastEight}
+use Rattle.game.specs.Playing.{Ready, SoughtIn, Standing, Rest, lastEight}
 use Rattle.game.proofs.Parts.{starts-nodes}
-use Rattle.game.proofs.Playing.{round-skip, round-reach}
+use Rattle.game.proofs.Playing.{sought-none, sought-skip, sought-reach}
 use Rattle.game.proofs.Standing.{can-more, can-nothing, aimed-aims}
 use Rattle.game.proofs.Reaching.{reach-steps}
 
@@ -91,12 +91,12 @@ module _ (gs starts rev member line : List ℕ) (n : ℕ) (en : nodes starts ≡
       ∙ rw en at (reach-steps gs starts rev member now done goal (rw en s) (λ y l. marks y (omega arith)) line el x
       (omega arith))))
 
--- the goals before `at` are reached if the round has begun, and no number after the columns is another than before
-pub record Seeking (graph : List ℕ) (n groups positions goals : ℕ) (now scratch₀ waits₀ scratch waits : List ℕ)
+-- the goals before `at` are reached, and no number after the columns is another than before
+pub record Seeking (graph : List ℕ) (n groups positions first goals : ℕ) (now scratch₀ waits₀ scratch waits : List ℕ)
     (at : ℕ) : Type 0 where
-  pub round : (start : List ℕ) → RoundIn graph n groups positions goals start now 0 (lastEight scratch₀) waits₀
-      → RoundIn graph n groups positions goals start now at (lastEight scratch) waits
+  pub sought : SoughtIn graph n groups positions now first at (lastEight scratch₀) waits₀ (lastEight scratch) waits
   pub rest : Rest (goals * n) waits₀ waits
+  pub begun : first ≤ at
   pub within : at ≤ goals
   pub long : length scratch ≡ length scratch₀
 
@@ -116,13 +116,16 @@ last-from place xs e =
     ap (λ (a : ℕ). drop a xs) at
 
 -- before the first goal
-pub seek-none : {graph : List ℕ} {n groups positions goals : ℕ} {now scratch waits : List ℕ}
-    → Seeking graph n groups positions goals now scratch waits scratch waits 0
-seek-none =
+pub seek-none : {graph : List ℕ} {n groups positions first goals : ℕ} {now scratch waits : List ℕ} → first ≤ goals
+    → Seeking graph n groups positions first goals now scratch waits scratch waits first
+seek-none {graph} {n} {groups} {positions} {first} {now} {scratch} {waits} some =
     record {
-      round = λ start r. r;
+      sought =
+          sought-none (canIn graph n groups positions) (overAt (labelsIn graph n)) (goalOf (labelsIn graph n)) n now
+          first (lastEight scratch) waits;
       rest = record { long = refl; stays = refl };
-      within = omega arith;
+      begun = omega arith;
+      within = some;
       long = refl;
     }
 
@@ -138,8 +141,8 @@ module _ {graph : List ℕ} {n groups positions goals : ℕ} {now : List ℕ} (m
       standing
 
   -- one goal
-  module _ {scratch₀ waits₀ scratch waits : List ℕ} {at tail : ℕ}
-      (k : Seeking graph n groups positions goals now scratch₀ waits₀ scratch waits at) (low : at < goals)
+  module _ {scratch₀ waits₀ scratch waits : List ℕ} {first at tail : ℕ}
+      (k : Seeking graph n groups positions first goals now scratch₀ waits₀ scratch waits at) (low : at < goals)
       (et : tail ≡ length (aimed (labelsIn graph n) member at now)) (wide : 8 ≤ length scratch₀) where
     -- where the numbers of targets begin
     abbrev place : ℕ
@@ -150,18 +153,20 @@ module _ {graph : List ℕ} {n groups positions goals : ℕ} {now : List ℕ} (m
 
     -- as many targets as in the round before
     pub seek-skip : getD scratch (place + at) 0 ≡ tail
-        → Seeking graph n groups positions goals now scratch₀ waits₀ scratch waits (at + 1)
+        → Seeking graph n groups positions first goals now scratch₀ waits₀ scratch waits (at + 1)
     unfolding canIn
     seek-skip same =
         record {
-          round = λ start r.
-              round-skip (canIn graph n groups positions) (overAt (labelsIn graph n)) (goalOf (labelsIn graph n)) n
-              goals start (ready .fits .few-nodes) now (lastEight scratch) waits at (k .round start r) low
+          sought =
+              sought-skip (canIn graph n groups positions) (overAt (labelsIn graph n)) (goalOf (labelsIn graph n)) n
+              (ready .fits .few-nodes) now s
               (can-more (groupsIn graph groups) (startsIn graph n) (revIn graph positions))
               (can-nothing (groupsIn graph groups) (startsIn graph n) (revIn graph positions))
+              first at (lastEight scratch₀) waits₀ (lastEight scratch) waits (k .sought) (k .begun)
               (ap (λ (l : List ℕ). getD l at 0) last-was
               ∙ (getD-drop place scratch at 0 ∙ (same ∙ (et ∙ ap length (targets-are at)))));
           rest = k .rest;
+          begun = omega (arith, k .begun);
           within = omega arith;
           long = k .long;
         }
@@ -188,7 +193,7 @@ module _ {graph : List ℕ} {n groups positions goals : ℕ} {now : List ℕ} (m
         (zeroed line (replicate n 65535))
         → scratch' ≡ counts ++ drop place (set scratch (place + at) tail)
         → waits' ≡ take (at * n) waits ++ (new ++ drop (at * n + n - at * n) (drop (at * n) waits))
-        → Seeking graph n groups positions goals now scratch₀ waits₀ scratch' waits' (at + 1)
+        → Seeking graph n groups positions first goals now scratch₀ waits₀ scratch' waits' (at + 1)
     unfolding canIn
     seek-reach line counts new {scratch'} {waits'} room el ec en es ew =
         let gs = groupsIn graph groups in
@@ -214,9 +219,10 @@ module _ {graph : List ℕ} {n groups positions goals : ℕ} {now : List ℕ} (m
         let size = put-length (at * n) n (at * n + n - at * n) waits new waits' (turn .room) long span ew in
         let out = put-out (at * n) n (at * n + n - at * n) waits new waits' (turn .room) long span ew in
         record {
-          round = λ start r.
-              round-reach (canIn graph n groups positions) done goal n goals start (ready .fits .few-nodes) now
-              (lastEight scratch) waits at (k .round start r) low (lastEight scratch') waits' tail
+          sought =
+              sought-reach (canIn graph n groups positions) done goal n (ready .fits .few-nodes) now s
+              (can-more gs starts rev) (can-nothing gs starts rev) first at (lastEight scratch₀) waits₀
+              (lastEight scratch) waits (k .sought) (k .begun) (lastEight scratch') waits' tail
               (omega (arith, ap length last-was, length-drop place scratch, k .long))
               (last-from place scratch' (omega arith)
               ∙ (ap (drop place) es ∙ (drop-at counts kept place ec ∙ (drop-set-add place scratch at tail
@@ -233,16 +239,16 @@ module _ {graph : List ℕ} {n groups positions goals : ℕ} {now : List ℕ} (m
                 same-rest (goals * n) waits waits' size (λ m h. out m (inr (omega (arith, turn .ends))))
                 ∙ k .rest .stays;
           };
+          begun = omega (arith, k .begun);
           within = omega arith;
           long = same;
         }
 
 -- after the last goal
-pub seek-end : {graph : List ℕ} {n groups positions goals : ℕ} {now scratch₀ waits₀ scratch waits : List ℕ} {at : ℕ}
-    → Seeking graph n groups positions goals now scratch₀ waits₀ scratch waits at → goals ≤ at
-    → ((start : List ℕ) → RoundIn graph n groups positions goals start now 0 (lastEight scratch₀) waits₀
-    → RoundIn graph n groups positions goals start now goals (lastEight scratch) waits)
+pub seek-end : {graph : List ℕ} {n groups positions first goals : ℕ} {now scratch₀ waits₀ scratch waits : List ℕ}
+    {at : ℕ} → Seeking graph n groups positions first goals now scratch₀ waits₀ scratch waits at → goals ≤ at
+    → SoughtIn graph n groups positions now first goals (lastEight scratch₀) waits₀ (lastEight scratch) waits
     × Rest (goals * n) waits₀ waits
 seek-end {goals} {at} k h =
     let all : at ≡ goals = omega (arith, k .within) in
-    (rw all at (k .round), k .rest)
+    (rw all at (k .sought), k .rest)

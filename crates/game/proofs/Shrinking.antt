@@ -1,11 +1,12 @@
 -- A round that strikes nodes out at once: the nodes cut away go on the worklist first, and the list of the set is cut
 -- down to what the worklist leaves. Assumes nothing.
 use mathlib.Core.Path.{_≡_, refl, sym, ap, _∙_, subst}
-use mathlib.Core.Logic.{_⊎_, inl, ⊎-elim}
+use mathlib.Core.Logic.{_⊎_, inl, inr, ⊎-elim}
 use mathlib.Core.Bool.{Bool, true, false, _&&_, _||_, not}
 use mathlib.Core.List.{List, []}
 use Prim.Native.Nat.{ℕ, _-_, _≤_, _<_}
 use native.Mathlib.Omega.{arith}
+use borrow.Author.Tests.{lt-ltb}
 use lib.Dec.{ltb}
 use lib.ListN.{length, getD, take}
 use lib.Seq.{getD-take, take-take, length-take-le}
@@ -13,7 +14,8 @@ use Rattle.statements.specs.Sets.{pick, numbers, isIn, filter}
 use Rattle.statements.specs.Demands.{Rising}
 use Rattle.sets.proofs.Tests.{decided, and-true, and-left, or-left, or-right, or-cases}
 use Rattle.sets.proofs.Members.{Sifted, sifted-sub, sifted-same, filter-holds, filter-in, filter-test, filter-parts}
-use Rattle.sets.proofs.Iterate.{sifted-below}
+use Rattle.sets.proofs.Members.{filter-length}
+use Rattle.sets.proofs.Iterate.{sifted-below, sifted-as-long}
 use Rattle.sets.proofs.Rising.{filter-rises}
 use Rattle.game.specs.Walked.{nodes}
 use Rattle.game.specs.Game.{Can}
@@ -28,6 +30,7 @@ use Rattle.game.proofs.Standing.{can-more, live-can, without-failing}
 use Rattle.game.proofs.Deaths.{other-set}
 use Rattle.game.proofs.Strikes.{in-without, without-holds}
 use Rattle.game.proofs.Drained.{Rises, drained-within, drained-sifted, drained-moves, drained-joins}
+use Rattle.game.proofs.Drained.{drained-greatest}
 
 -- a rising list has no node twice
 pub sifted-once : (n : ℕ) (xs : List ℕ) → Sifted (numbers n 0) xs → Once xs (length xs)
@@ -152,6 +155,42 @@ module _ (graph : List ℕ) (n groups positions goals : ℕ) (ready : Ready grap
         others = λ x a b. goes x a (passes x a b);
         spares = λ part within on x m. without-holds x (take tail list) xs (within x m) .1;
       },
+    )
+
+  -- no node fails the test: none is struck out
+  module _ (test : ℕ → Bool) (xs member live dead : List ℕ) (sifted : Sifted (numbers n 0) xs)
+      (marked : Marked gs starts rev xs member live dead) (goes : GoesOn test labels xs live)
+      (all : length xs ≤ length (filter test xs)) where
+    whole : filter test xs ≡ xs
+    whole =
+        sifted-as-long (numbers n 0) (filter test xs) xs (sifted-sub test (numbers n 0) xs sifted) sifted
+        (λ x m. filter-holds test xs x m .0) (omega (arith, filter-length test xs))
+
+    drained-whole : drained can (overAt labels) (filter test xs) ≡ xs
+    unfolding canIn
+    drained-whole =
+        ap (drained can (overAt labels)) whole
+        ∙ sifted-same (numbers n 0) (drained can (overAt labels) xs) xs
+        (drained-sifted can (overAt labels) (numbers n 0) xs sifted) sifted (drained-within can (overAt labels) xs)
+        (drained-greatest can (overAt labels) (can-more gs starts rev) xs xs (λ x m. m)
+        (λ x m.
+        ⊎-elim
+        (λ d. inl d)
+        (λ h.
+        inr (sym (live-can gs starts rev (λ g l. ready .full g (omega (arith, groups-length graph (ready .fits)))) xs
+        member live dead marked x (omega (arith, sifted-below n xs sifted x m, starts-nodes graph (ready .fits))))
+        ∙ lt-ltb 0 (getD live x 0) h))
+        (goes x m (filter-holds test xs x (rw whole m) .1))))
+
+    pub shrink-none : (out : List ℕ) (number : ℕ) → number ≡ length xs → out ≡ filter test xs
+        → (number ≡ length (drained can (overAt labels) (filter test xs)))
+        × ((out ≡ drained can (overAt labels) (filter test xs)) × Marked gs starts rev out member live dead)
+    shrink-none out number long is = (
+      long ∙ sym (ap length drained-whole),
+      (
+        is ∙ (whole ∙ sym drained-whole),
+        subst (λ (l : List ℕ). Marked gs starts rev l member live dead) (sym (is ∙ whole)) marked,
+      ),
     )
 
   -- what the worklist leaves of a set, by the marks

@@ -4,7 +4,7 @@ use mathlib.Core.List.{List}
 use Prim.Native.Nat.{ℕ, suc, _+_, _-_, _*_, _/_}
 use lib.Dec.{leb}
 use lib.ListN.{length, getD, take, drop}
-use Rattle.statements.specs.Sets.{bit, every, isIn, over}
+use Rattle.statements.specs.Sets.{bit, every, isIn}
 use Rattle.arrays.specs.Lists.{rising}
 use Rattle.game.specs.Walked.{canEnter, ordered, allBelow}
 use Rattle.game.specs.Game.{Can, heldAfter, stepsOf}

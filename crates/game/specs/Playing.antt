@@ -1,4 +1,4 @@
--- What the rounds of a game hand on to each other: which waits are worked out for which set. Assumes nothing.
+-- What the turns of a game hand on to each other: which waits are worked out for which set. Assumes nothing.
 use mathlib.Core.Path.{_≡_}
 use mathlib.Core.Logic.{_⊎_}
 use mathlib.Core.Bool.{Bool, true, _&&_}
@@ -10,7 +10,7 @@ use Rattle.statements.specs.Sets.{numbers, isIn, over, pick}
 use Rattle.sets.proofs.Members.{Sifted}
 use Rattle.sort.specs.Steps.{Holds, countOf}
 use Rattle.game.specs.Steps.{Index}
-use Rattle.game.specs.Game.{Can, aims, heldAfter, stepsTo}
+use Rattle.game.specs.Game.{Can, aims, attracted, stepsTo}
 use Rattle.game.specs.Packed.{placesIn, groupsIn, revIn, startsIn, labelsIn, goalOf, overAt, canIn, roomyFor}
 use Rattle.game.specs.Packed.{soundIn, playable, heldIn, waitsIn}
 
@@ -55,6 +55,24 @@ pub record Sized (graph : List ℕ) (groups positions : ℕ) (sizes : List ℕ) 
   pub long : groups ≤ length sizes
   pub counted : Holds groups (countOf (revIn graph positions) (length (revIn graph positions))) sizes
 
+-- a game can be played: it is ready, its start is a rising list of nodes, the positions of its groups are counted, two
+-- arrays are filled, and there is room for so many waits
+pub record Prepared (graph : List ℕ) (nodes groups positions goals : ℕ) (sizes start dead scratch : List ℕ) (waits : ℕ)
+    : Type 0 where
+  pub ready : Ready graph nodes groups positions goals
+  pub sized : Sized graph groups positions sizes
+  pub start-rises : Sifted (numbers nodes 0) start
+  pub no-dead : Fresh groups 0 dead
+  pub no-targets : Fresh (groups + 8) 65535 scratch
+  pub room : goals * nodes ≤ waits
+
+-- and it is played: how many nodes are left, and their waits
+pub record Played (graph : List ℕ) (nodes groups positions goals : ℕ) (start old : List ℕ) (count : ℕ) (new : List ℕ)
+    : Type 0 where
+  pub number : count ≡ length (heldIn graph nodes groups positions goals start)
+  pub waits : new
+      ≡ over (waitsIn graph nodes groups positions goals (heldIn graph nodes groups positions goals start)) old
+
 -- a reach can begin: its targets are in line, and there is room for each node and each group
 pub record Lined (graph : List ℕ) (nodes groups positions : ℕ) (sizes member counts queue : List ℕ) (tail : ℕ)
     : Type 0 where
@@ -73,32 +91,43 @@ pub record Reached (can : Can) (done : ℕ → Bool) (goal : ℕ → ℕ → Boo
   pub column : (x : ℕ) → x < n → getD waits (i * n + x) 0 ≡ stepsTo can done (goal i) set x
   pub targets : getD last i 0 ≡ length (aims can done (goal i) set)
 
--- what a round leaves of a set: a part of it, with each node of the set that can go on into that part
+-- what is left of a set when nodes are struck out: a part of it, with each node of the set that can go on into it
 pub record Leaves (can : Can) (old new : List ℕ) : Type 0 where
   pub within : (x : ℕ) → isIn x new ≡ true → isIn x old ≡ true
   pub closed : (ys : List ℕ) (x : ℕ) → ((y : ℕ) → isIn y ys ≡ true → isIn y new ≡ true) → isIn x old ≡ true
       → can ys x ≡ true → isIn x new ≡ true
 
--- the reach was worked out in the round before, or never
+-- the reach was worked out within an earlier set, from which nodes were then struck out, at least those without a wait
+pub record Earlier (can : Can) (done : ℕ → Bool) (goal : ℕ → ℕ → Bool) (n : ℕ) (set : List ℕ) (i : ℕ)
+    (last waits : List ℕ) : Type 0 where
+  pub old : List ℕ
+  pub sifted : Sifted (numbers n 0) old
+  pub leaves : Leaves can old set
+  pub reached : Reached can done goal n old i last waits
+  pub forced : (x : ℕ) → isIn x set ≡ true → isIn x (attracted can done (goal i) old) ≡ true
+
+-- or it was never worked out
 abbrev pub Older : Can → (ℕ → Bool) → (ℕ → ℕ → Bool) → ℕ → List ℕ → ℕ → List ℕ → List ℕ → Type 0
 Older can done goal n set i last waits =
-    (getD last i 0 ≡ 65535)
-    ⊎ ((old : List ℕ) × (Sifted (numbers n 0) old
-    × (Leaves can old set × Reached can done goal n old i last waits)))
+    (getD last i 0 ≡ 65535) ⊎ Earlier can done goal n set i last waits
 
--- a round from a start: the set that it is about, and the goals before `at` reached within it
-pub record Round (can : Can) (done : ℕ → Bool) (goal : ℕ → ℕ → Bool) (n goals : ℕ) (start set : List ℕ) (at : ℕ)
-    (last waits : List ℕ) : Type 0 where
-  pub sifted : Sifted (numbers n 0) set
-  pub same : heldAfter n goals can done goal set ≡ heldAfter n goals can done goal start
-  pub reached : (i : ℕ) → i < at → Reached can done goal n set i last waits
-  pub older : (i : ℕ) → at ≤ i → i < goals → Older can done goal n set i last waits
+-- goal i has the same column of waits, and the same number of targets, as before
+pub record Stays (n i : ℕ) (last waits last' waits' : List ℕ) : Type 0 where
+  pub column : (x : ℕ) → x < n → getD waits' (i * n + x) 0 ≡ getD waits (i * n + x) 0
+  pub targets : getD last' i 0 ≡ getD last i 0
+
+-- the goals from `first` up to `end` are reached within a set, and for the others nothing changes
+pub record Sought (can : Can) (done : ℕ → Bool) (goal : ℕ → ℕ → Bool) (n : ℕ) (set : List ℕ) (first end : ℕ)
+    (last waits last' waits' : List ℕ) : Type 0 where
+  pub reached : (i : ℕ) → first ≤ i → i < end → Older can done goal n set i last waits
+      → Reached can done goal n set i last' waits'
+  pub stays : (i : ℕ) → (i < first) ⊎ (end ≤ i) → Stays n i last waits last' waits'
 
 -- that of a packed game
-abbrev pub RoundIn : List ℕ → ℕ → ℕ → ℕ → ℕ → List ℕ → List ℕ → ℕ → List ℕ → List ℕ → Type 0
-RoundIn graph nodes groups positions goals start set at last waits =
-    Round (canIn graph nodes groups positions) (overAt (labelsIn graph nodes)) (goalOf (labelsIn graph nodes)) nodes goals
-    start set at last waits
+abbrev pub SoughtIn : List ℕ → ℕ → ℕ → ℕ → List ℕ → ℕ → ℕ → List ℕ → List ℕ → List ℕ → List ℕ → Type 0
+SoughtIn graph nodes groups positions set first end last waits last' waits' =
+    Sought (canIn graph nodes groups positions) (overAt (labelsIn graph nodes)) (goalOf (labelsIn graph nodes)) nodes
+    set first end last waits last' waits'
 
 -- a node is marked exactly where it is in the set and can go on within it
 abbrev pub Standing : List ℕ → ℕ → ℕ → ℕ → List ℕ → List ℕ → Type 0

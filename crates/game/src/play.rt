@@ -1,5 +1,6 @@
-// The rounds of a game: each reaches every goal from the same set, then strikes out the nodes from which one fails. A
-// goal with as many targets as in the round before is not reached again: its targets, and so its waits, are the same.
+// A game is played in rounds, each of which reaches every goal from the same set and then strikes out the nodes from
+// which one fails, or in turns, which strike out after each goal. A goal with as many targets as when it was last
+// reached is not reached again: its targets, and so its waits, are the same.
 use crate::below;
 use crate::places;
 use crate::reach::Figures;
@@ -28,11 +29,11 @@ ghost use Rattle.game.specs.Packed.{placesIn, groupsIn, revIn, startsIn,
 ghost use Rattle.game.specs.Packed.{waitsIn};
 ghost use Rattle.game.specs.Cuts.{waitsAll};
 ghost use Rattle.game.specs.Draining.{drainedIn, Ending};
-ghost use Rattle.game.specs.Playing.{Fits, Ready, Tested, Worked, Fresh, Sized, RoundIn, Standing, Rest};
-ghost use Rattle.game.specs.Playing.{lastEight};
+ghost use Rattle.game.specs.Playing.{Fits, Ready, Tested, Worked, Fresh, Sized, SoughtIn, Standing, Rest};
+ghost use Rattle.game.specs.Playing.{Prepared, Played, lastEight};
 
-// How many nodes, groups, positions and goals a game has, and whether each round also strikes out, by a worklist, the
-// nodes that then cannot go on. The answers are the same: it saves rounds where one node after another falls.
+// How many nodes, groups, positions and goals a game has, and whether nodes are struck out after each goal and, by a
+// worklist, those that then cannot go on. The answers are the same: it saves work where one node after another falls.
 pub struct Shape {
     pub nodes: usize,
     pub groups: usize,
@@ -165,7 +166,8 @@ fn shrink(
     left
 }
 
-// A round's end, in the way that the figures say.
+// A goal's turn ends: where the figures say so the nodes that have no wait for it are struck out, and those that then
+// cannot go on.
 fn narrow(
     graph: &[u16],
     game: Figures,
@@ -182,7 +184,7 @@ fn narrow(
     ensures still { λ r. ⌜ take r (now (list .exit)) ≡ pick (game .eager)
         (drainedIn (now (graph .entry)) (game .nodes) (game .groups) (game .positions)
         (filter (waitsAll (now (waits .entry)) (game .nodes) (game .goals)) (take (game .kept) (now (list .entry)))))
-        (filter (waitsAll (now (waits .entry)) (game .nodes) (game .goals)) (take (game .kept) (now (list .entry)))) ⌝ }
+        (take (game .kept) (now (list .entry))) ⌝ }
     ensures marked { λ r. ⌜ Marked (groupsIn (now (graph .entry)) (game .groups))
         (startsIn (now (graph .entry)) (game .nodes)) (revIn (now (graph .entry)) (game .positions))
         (take r (now (list .exit))) (now (member .exit)) (now (live .exit)) (now (dead .exit)) ⌝ }
@@ -190,33 +192,35 @@ fn narrow(
     if game.eager {
         return shrink_all(graph, game, waits, list, member, live, dead, gone);
     }
-    shrink(graph, game, waits, list, member, live, dead, gone)
+    game.kept
 }
 
-// The figures of a game with so many nodes in its set.
-fn held(game: Figures, kept: usize) -> Figures
+// The figures of a game with so many nodes in its set, for some of its goals.
+fn figured(game: Figures, first: usize, goals: usize, kept: usize, eager: bool) -> Figures
     ensures { λ r. ⌜ r ≡ record {
       nodes = game .nodes;
       groups = game .groups;
       positions = game .positions;
-      goals = game .goals;
+      first = first;
+      goals = goals;
       kept = kept;
-      eager = game .eager;
+      eager = eager;
     } ⌝ }
 {
     Figures {
         nodes: game.nodes,
         groups: game.groups,
         positions: game.positions,
-        goals: game.goals,
+        first: first,
+        goals: goals,
         kept: kept,
-        eager: game.eager,
+        eager: eager,
     }
 }
 
-// One round: the reach to each goal from the same set. A goal with as many targets as in the round before has the same
-// ones, and its waits stay. In the scratch numbers stand the counters of the groups, and in the last 8 how many targets
-// each goal had.
+// The reach to each goal that the figures name, from the same set. A goal with as many targets as when it was last
+// reached has the same ones, and its waits stay. In the scratch numbers stand the counters of the groups, and in the
+// last 8 how many targets each goal had.
 fn seek(
     graph: &[u16],
     game: Figures,
@@ -233,12 +237,10 @@ fn seek(
     requires member { ⌜ (game .nodes ≤ length (now member))
         × Standing (now graph) (game .nodes) (game .groups) (game .positions) (now set) (now member) ⌝ }
     requires room { ⌜ (game .groups + 8 ≤ length (now scratch)) × ((game .goals * game .nodes ≤ length (now waits))
-        × (length (now queue) ≡ 1024)) ⌝ }
-    ensures round { λ _. ⌜ ((start : List ℕ) →
-        RoundIn (now (graph .entry)) (game .nodes) (game .groups) (game .positions) (game .goals) start
-        (now (set .entry)) 0 (lastEight (now (scratch .entry))) (now (waits .entry))
-        → RoundIn (now (graph .entry)) (game .nodes) (game .groups) (game .positions) (game .goals) start
-        (now (set .entry)) (game .goals) (lastEight (now (scratch .exit))) (now (waits .exit))) ⌝ }
+        × ((length (now queue) ≡ 1024) × (game .first ≤ game .goals))) ⌝ }
+    ensures sought { λ _. ⌜ SoughtIn (now (graph .entry)) (game .nodes) (game .groups) (game .positions)
+        (now (set .entry)) (game .first) (game .goals) (lastEight (now (scratch .entry))) (now (waits .entry))
+        (lastEight (now (scratch .exit))) (now (waits .exit)) ⌝ }
     ensures rest { λ _. ⌜ Rest (game .goals * game .nodes) (now (waits .entry)) (now (waits .exit)) ⌝ }
 {
     let nodes = game.nodes;
@@ -246,7 +248,7 @@ fn seek(
     let last = scratch.len() - 8;
     let mut bits = [0u16; 1024];
     offers(&graph[labels..labels + nodes], member, &mut bits);
-    let mut goal = 0;
+    let mut goal = game.first;
     while goal < game.goals {
         let tail = aim(&bits, set, goal, queue);
         if scratch[last + goal] as usize != tail {
@@ -269,7 +271,7 @@ fn seek(
 
 // The set begins, and the rounds are played until one strikes nothing out; leaves the waits of the nodes that are left,
 // and returns their number.
-fn play(
+fn rounds(
     graph: &[u16],
     game: Figures,
     sizes: &[u16],
@@ -278,17 +280,10 @@ fn play(
     scratch: &mut [u16],
     waits: &mut [u16],
 ) -> usize
-    requires ready { ⌜ Ready (now graph) (game .nodes) (game .groups) (game .positions) (game .goals) ⌝ }
-    requires sizes { ⌜ Sized (now graph) (game .groups) (game .positions) (now sizes) ⌝ }
-    requires start { ⌜ Sifted (numbers (game .nodes) 0) (now start) ⌝ }
-    requires dead { ⌜ Fresh (game .groups) 0 (now dead) ⌝ }
-    requires scratch { ⌜ Fresh (game .groups + 8) 65535 (now scratch) ⌝ }
-    requires room { ⌜ game .goals * game .nodes ≤ length (now waits) ⌝ }
-    ensures number { λ r. ⌜ r ≡ length (heldIn (now (graph .entry)) (game .nodes) (game .groups) (game .positions)
-        (game .goals) (now (start .entry))) ⌝ }
-    ensures waits { λ _. ⌜ now (waits .exit) ≡ over (waitsIn (now (graph .entry)) (game .nodes) (game .groups)
-        (game .positions) (game .goals) (heldIn (now (graph .entry)) (game .nodes) (game .groups) (game .positions)
-        (game .goals) (now (start .entry)))) (now (waits .entry)) ⌝ }
+    requires { ⌜ Prepared (now graph) (game .nodes) (game .groups) (game .positions) (game .goals) (now sizes)
+        (now start) (now dead) (now scratch) (length (now waits)) ⌝ }
+    ensures { λ r. ⌜ Played (now (graph .entry)) (game .nodes) (game .groups) (game .positions) (game .goals)
+        (now (start .entry)) (now (waits .entry)) r (now (waits .exit)) ⌝ }
 {
     let mut member = [65535u16; 1024];
     let mut live = [0u16; 1024];
@@ -298,9 +293,10 @@ fn play(
     copy(start, &mut list);
     let mut kept = start.len();
     loop {
+        let all = figured(game, 0, game.goals, kept, false);
         seek(
             graph,
-            game,
+            all,
             sizes,
             &list[..kept],
             &member,
@@ -308,10 +304,9 @@ fn play(
             waits,
             &mut queue,
         );
-        let now = held(game, kept);
-        let left = narrow(
+        let left = shrink(
             graph,
-            now,
+            all,
             waits,
             &mut list,
             &mut member,
@@ -324,6 +319,115 @@ fn play(
         }
         kept = left;
     }
+}
+
+// How many targets a goal had when it was last reached.
+fn noted(scratch: &[u16], goal: usize) -> u16
+    requires { ⌜ (8 ≤ length (now scratch)) × (goal < 8) ⌝ }
+    ensures { λ r. ⌜ r ≡ getD (lastEight (now (scratch .entry))) goal 0 ⌝ }
+{
+    let last = scratch.len() - 8;
+    scratch[last + goal]
+}
+
+// How many turns in a row have struck nothing out, after one that left so many of the nodes.
+fn still_after(still: usize, kept: usize, left: usize) -> usize
+    requires { ⌜ still < 8 ⌝ }
+    ensures { λ r. ⌜ r ≡ pick (ltb left kept) 0 (still + 1) ⌝ }
+{
+    if left < kept {
+        return 0;
+    }
+    still + 1
+}
+
+// The goal whose turn it is after another's.
+fn goal_after(goal: usize, goals: usize) -> usize
+    requires { ⌜ goal < 8 ⌝ }
+    ensures { λ r. ⌜ r ≡ pick (ltb (goal + 1) goals) (goal + 1) 0 ⌝ }
+{
+    if goal + 1 < goals {
+        return goal + 1;
+    }
+    0
+}
+
+// The set begins, and one goal after the other has its turn until as many turns as there are goals have struck nothing
+// out; leaves the waits of the nodes that are left, and returns their number.
+fn turns(
+    graph: &[u16],
+    game: Figures,
+    sizes: &[u16],
+    start: &[u16],
+    dead: &mut [u16],
+    scratch: &mut [u16],
+    waits: &mut [u16],
+) -> usize
+    requires { ⌜ Prepared (now graph) (game .nodes) (game .groups) (game .positions) (game .goals) (now sizes)
+        (now start) (now dead) (now scratch) (length (now waits)) ⌝ }
+    ensures { λ r. ⌜ Played (now (graph .entry)) (game .nodes) (game .groups) (game .positions) (game .goals)
+        (now (start .entry)) (now (waits .entry)) r (now (waits .exit)) ⌝ }
+{
+    let nodes = game.nodes;
+    let goals = game.goals;
+    let mut member = [65535u16; 1024];
+    let mut live = [0u16; 1024];
+    begin(graph, game, start, &mut member, &mut live, dead);
+    let mut queue = [0u16; 1024];
+    let mut list = [0u16; 1024];
+    copy(start, &mut list);
+    let mut kept = start.len();
+    let mut goal = 0;
+    let mut still = 0;
+    while still < goals {
+        let was = noted(scratch, goal);
+        seek(
+            graph,
+            figured(game, goal, goal + 1, kept, true),
+            sizes,
+            &list[..kept],
+            &member,
+            scratch,
+            waits,
+            &mut queue,
+        );
+        let from = goal * nodes;
+        let left = narrow(
+            graph,
+            figured(game, 0, 1, kept, noted(scratch, goal) != was),
+            &waits[from..from + nodes],
+            &mut list,
+            &mut member,
+            &mut live,
+            dead,
+            &mut queue,
+        );
+        still = still_after(still, kept, left);
+        goal = goal_after(goal, goals);
+        kept = left;
+    }
+    kept
+}
+
+// Plays a game in the way that the figures say.
+fn play(
+    graph: &[u16],
+    game: Figures,
+    sizes: &[u16],
+    start: &[u16],
+    dead: &mut [u16],
+    scratch: &mut [u16],
+    waits: &mut [u16],
+) -> usize
+    requires { ⌜ Prepared (now graph) (game .nodes) (game .groups) (game .positions) (game .goals) (now sizes)
+        (now start) (now dead) (now scratch) (length (now waits)) ⌝ }
+    ensures { λ r. ⌜ Played (now (graph .entry)) (game .nodes) (game .groups) (game .positions) (game .goals)
+        (now (start .entry)) (now (waits .entry)) r (now (waits .exit)) ⌝ }
+{
+    if game.eager {
+        return turns(graph, game, sizes, start, dead, scratch, waits);
+    }
+    rounds(graph, game, sizes, start, dead, scratch, waits)
 }
 
 // The figures of a game fit, and there is room for the waits.
@@ -453,6 +557,7 @@ pub fn work_out(graph: &[u16], shape: Shape, start: &[u16], waits: &mut [u16]) -
         nodes: shape.nodes,
         groups: shape.groups,
         positions: shape.positions,
+        first: 0,
         goals: shape.goals,
         kept: start.len(),
         eager: shape.eager,

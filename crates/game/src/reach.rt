@@ -15,12 +15,13 @@ ghost use Rattle.game.specs.Packed.{groupsIn, revIn, startsIn, goalOf};
 ghost use Rattle.game.specs.Cuts.{offered, Offers};
 ghost use Rattle.game.specs.Playing.{Lined};
 
-// How many nodes, groups, positions and goals a game has, how many nodes the set has, and whether a round also strikes
-// out the nodes that then cannot go on.
+// How many nodes, groups and positions a game has, the first of the goals to be looked at and the end of these, how
+// many nodes the set has, and whether nodes are struck out after each goal.
 pub struct Figures {
     pub nodes: usize,
     pub groups: usize,
     pub positions: usize,
+    pub first: usize,
     pub goals: usize,
     pub kept: usize,
     pub eager: bool,

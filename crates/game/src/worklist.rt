@@ -234,6 +234,9 @@ pub(crate) fn shrink_all(
     let goals = game.goals;
     let kept = game.kept;
     let left = cut(waits, nodes, goals, list, kept, gone);
+    if kept <= left {
+        return kept;
+    }
     let mut line = [0u16; 1024];
     let first = load(&gone[..kept - left], member, &mut line);
     drain(graph, game, member, live, dead, &mut line, first);

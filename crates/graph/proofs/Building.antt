@@ -83,7 +83,8 @@ counts-few s mask a fine count =
 front-append : (vs xs rest : List ℕ) → Front vs xs → Front vs (xs ++ rest)
 front-append vs xs rest f = take-append-le (length vs) xs rest (front-fits vs xs f) ∙ f
 
-owners-length : (p : Plant) (mask : ℕ) → length (groupOwners p mask) ≡ length (groupEnds p mask)
+-- as many owners as ends
+pub owners-length : (p : Plant) (mask : ℕ) → length (groupOwners p mask) ≡ length (groupEnds p mask)
 unfolding groupOwners
 owners-length p mask = numbered-length 0 (groupSizes p mask) ∙ sym (ends-length p mask)
 

@@ -5,6 +5,4 @@ pub mod Positions
 pub mod Links
 pub mod Packing
 pub mod Building
-pub mod Gathered
-pub mod Taken
 pub mod Lent

@@ -1,11 +1,9 @@
 -- What the steps of the packing hand on to each other. Assumes nothing.
 use mathlib.Core.Path.{_≡_}
-use mathlib.Core.Bool.{Bool, true}
 use mathlib.Core.List.{List}
-use Prim.Native.Nat.{ℕ, _+_, _-_, _*_, _≤_}
+use Prim.Native.Nat.{ℕ, _-_, _≤_}
 use lib.ListN.{length, take, drop}
 use Rattle.statements.specs.Plants.{plantOf, plantFault, word}
-use Rattle.statements.specs.Index.{indexBytes, sameBytes}
 use Rattle.sort.specs.Sorted.{sortedBy, startsOf}
 use Rattle.layout.specs.Layout.{groupEnds, groupOwners, Front}
 use Rattle.game.specs.Packed.{placesIn}
@@ -20,12 +18,6 @@ pub record Owned (plant : List ℕ) (mask : ℕ) (owners rev : List ℕ) : Type 
   pub owners-are : Front (groupOwners (plantOf plant) mask) owners
   pub owners-long : word 3 plant ≤ length owners
   pub rev-long : word 3 plant ≤ length rev
-
--- what gathering by an index tells: whether the bytes lent are the plant's index, and if so the groups are sorted
-pub record Gathered (plant : List ℕ) (mask : ℕ) (index : List ℕ) (good : Bool) (rev : List ℕ) : Type 0 where
-  pub lent-is : good ≡ sameBytes index (indexBytes (plantOf plant))
-  pub sorted : good ≡ true
-      → Front (sortedBy (word 0 plant) (groupEnds (plantOf plant) mask) (groupOwners (plantOf plant) mask)) rev
 
 -- the ends of the moves in service of an accepted plant, and their groups, can be linked in the graph
 pub record Linkable (plant : List ℕ) (mask : ℕ) (ends owners graph : List ℕ) : Type 0 where

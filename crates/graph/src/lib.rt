@@ -4,8 +4,8 @@ use arrays::copy;
 use format::plant::labels_to;
 use format::word::number;
 use index::gather;
+use index::is_index;
 use layout::Loaded;
-use layout::deal::deal;
 use layout::load;
 use layout::table_room;
 use sort::begin;
@@ -15,11 +15,11 @@ ghost use mathlib.Core.Bool.{true, false, _&&_};
 ghost use Prim.Native.Nat.{_+_, _≤_};
 ghost use lib.ListN.{length, drop};
 ghost use Rattle.statements.specs.Sets.{pick, over};
-ghost use Rattle.statements.specs.Plants.{word, plantOf};
+ghost use Rattle.statements.specs.Plants.{word, plantOf, plantFault};
 ghost use Rattle.sort.specs.Sorted.{sortedBy, startsOf};
 ghost use Rattle.layout.specs.Layout.{groupStates, groupEnds, groupOwners, Front};
 ghost use Rattle.graph.specs.Packed.{lent, accepts, roomyPack, Packed};
-ghost use Rattle.graph.specs.Steps.{Alike, Owned, Gathered, Linkable, Linked};
+ghost use Rattle.graph.specs.Steps.{Alike, Owned, Linkable, Linked};
 
 // Whether the links are packed by an index, and the moves in service.
 pub struct Way {
@@ -48,50 +48,20 @@ fn put(from: &[u16], count: usize, to: &mut [u16], at: usize)
     copy(&from[..count], &mut to[at..]);
 }
 
-// The groups by their ends, gathered by an index: each arrow is dealt its group, and the index says in which order the
-// arrows end. Refused where the bytes lent are not the plant's index.
-fn gather_dealt(
-    plant: &[u8],
-    index: &[u8],
-    mask: u32,
-    owners: &[u16],
-    by: &mut [u16],
-    rev: &mut [u16],
-) -> bool
-    requires laid { ⌜ Owned (now plant) mask (now owners) (now rev) ⌝ }
-    requires room { ⌜ word 3 (now plant) ≤ length (now by) ⌝ }
-    ensures { λ r. ⌜ Gathered (now (plant .entry)) mask (now (index .entry)) r (now (rev .exit)) ⌝ }
+// Where an index is lent, its bytes are those of an accepted plant's.
+fn lends(plant: &[u8], index: &[u8], indexed: bool) -> bool
+    requires { ⌜ plantFault (now plant) ≡ 0 ⌝ }
+    ensures { λ r. ⌜ r ≡ lent indexed (plantOf (now (plant .entry))) (now (index .entry)) ⌝ }
 {
-    deal(plant, mask, owners, by);
-    gather(plant, index, by, rev) < 65535
+    if indexed {
+        return is_index(plant, index);
+    }
+    true
 }
 
-// The same. Where all arrows are in service the groups that own the ends stand by arrow already, and none is dealt.
-fn by_index(
-    plant: &[u8],
-    index: &[u8],
-    mask: u32,
-    served: usize,
-    owners: &[u16],
-    rev: &mut [u16],
-) -> bool
-    requires laid { ⌜ Owned (now plant) mask (now owners) (now rev) ⌝ }
-    requires served { ⌜ served ≡ length (groupEnds (plantOf (now plant)) mask) ⌝ }
-    ensures { λ r. ⌜ Gathered (now (plant .entry)) mask (now (index .entry)) r (now (rev .exit)) ⌝ }
-{
-    let count = number(plant, 3) as usize;
-    if served == count {
-        return gather(plant, index, owners, rev) < 65535;
-    }
-    if count <= 2048 {
-        let mut by = [0u16; 2048];
-        return gather_dealt(plant, index, mask, owners, &mut by, rev);
-    }
-    let mut by = [0u16; 8192];
-    gather_dealt(plant, index, mask, owners, &mut by, rev)
-}
-
-// The groups by their ends, and where those of each end begin: gathered by an index, or sorted by counting.
+// The groups by their ends, and where those of each end begin. Where all arrows are in service the groups stand by
+// arrow, and an index gathers them and is checked on the way; otherwise they are sorted by counting, and an index is
+// checked alone. Refused where the bytes lent are not the plant's index.
 fn order(
     plant: &[u8],
     index: &[u8],
@@ -105,15 +75,19 @@ fn order(
         × Owned (now plant) (way .mask) (now owners) (now rev) ⌝ }
     requires room { ⌜ 1025 ≤ length (now starts) ⌝ }
     ensures lent { λ r. ⌜ r ≡ lent (way .indexed) (plantOf (now (plant .entry))) (now (index .entry)) ⌝ }
-    ensures starts { λ _. ⌜ now (starts .exit)
-        ≡ over (startsOf (word 0 (now (plant .entry))) (now (ends .entry))) (now (starts .entry)) ⌝ }
+    ensures starts { λ r. ⌜ (r ≡ true → now (starts .exit)
+        ≡ over (startsOf (word 0 (now (plant .entry))) (now (ends .entry))) (now (starts .entry))) ⌝ }
     ensures sorted { λ r. ⌜ (r ≡ true → Front (sortedBy (word 0 (now (plant .entry))) (now (ends .entry))
         (groupOwners (plantOf (now (plant .entry))) (way .mask))) (now (rev .exit))) ⌝ }
 {
     let count = number(plant, 0) as usize;
-    if way.indexed {
+    let all = ends.len() == (number(plant, 3) as usize);
+    if way.indexed & all {
         begin(ends, count, starts);
-        return by_index(plant, index, way.mask, ends.len(), owners, rev);
+        return gather(plant, index, owners, rev);
+    }
+    if !lends(plant, index, way.indexed) {
+        return false;
     }
     sort(ends, &owners[..ends.len()], count, starts, rev);
     true
@@ -152,9 +126,9 @@ fn link(
     good
 }
 
-// Builds the packed arrays of a plant and the moves in service, the links by an index where one is lent. Where the plant
-// is refused, the bytes lent are not its index, or an array is too short for it, none is built, and nothing is said of
-// what the arrays hold.
+// Builds the packed arrays of a plant and the moves in service, the links by an index where one is lent. Where the
+// plant is refused, the bytes lent are not its index, or an array is too short for it, none is built, and nothing is
+// said of what the arrays hold.
 pub fn build(plant: &[u8], index: &[u8], way: Way, table: &mut [u16], graph: &mut [u16]) -> Loaded
     ensures fits { λ r. ⌜ r .fits ≡ (accepts (way .indexed) (now (index .entry)) (now (plant .entry))
         && roomyPack (plantOf (now (plant .entry))) (now (table .entry)) (now (graph .entry))) ⌝ }

@@ -2,7 +2,7 @@
 -- Assumes nothing.
 use mathlib.Core.Path.{_≡_, refl, sym, ap, ap₂, _∙_}
 use mathlib.Core.Bool.{Bool, true}
-use mathlib.Core.List.{List, [], _∷_, map}
+use mathlib.Core.List.{List, [], _∷_, map, map-id}
 use Prim.Native.Nat.{ℕ, suc, _+_, _≤_, _<_}
 use native.Mathlib.Omega.{arith}
 use lib.Dec.{eqb}
@@ -23,7 +23,7 @@ use Rattle.sort.proofs.Fitting.{sortable-yes}
 use Rattle.index.proofs.Passing.{end-read}
 
 -- the arrows that end in y, as the numbers at which a function gives y
-pub to-filter : (rs : List Arrow) (k y : ℕ) (f : ℕ → ℕ) → ((j : ℕ) → j < length rs → f (k + j) ≡ toOf rs j)
+to-filter : (rs : List Arrow) (k y : ℕ) (f : ℕ → ℕ) → ((j : ℕ) → j < length rs → f (k + j) ≡ toOf rs j)
     → arrowsTo rs k y ≡ filter (λ a. eqb (f a) y) (numbers (length rs) k)
 unfolding arrowsTo filter numbers
 to-filter [] k y f h = refl
@@ -34,12 +34,11 @@ to-filter (a ∷ rest) k y f h =
     (to-filter rest (suc k) y f
     (λ j l. let there : suc k + j ≡ k + suc j = omega arith in ap f there ∙ h (suc j) (omega arith)))
 
--- a function that leaves each member as it is
-map-own : (f : ℕ → ℕ) (xs : List ℕ) → ((x : ℕ) → isIn x xs ≡ true → f x ≡ x) → map f xs ≡ xs
-map-own f [] h = refl
-map-own f (x ∷ xs) h =
-    ap₂ (λ (v : ℕ) (vs : List ℕ). v ∷ vs) (h x (isIn-here x xs))
-    (map-own f xs (λ y i. h y (isIn-there y x xs i)))
+-- functions that give the same for each number of a list
+map-same : (f g : ℕ → ℕ) (xs : List ℕ) → ((x : ℕ) → isIn x xs ≡ true → f x ≡ g x) → map f xs ≡ map g xs
+map-same f g [] h = refl
+map-same f g (x ∷ xs) h =
+    ap₂ (λ (v : ℕ) (vs : List ℕ). v ∷ vs) (h x (isIn-here x xs)) (map-same f g xs (λ y i. h y (isIn-there y x xs i)))
 
 -- with the ends of the arrows as keys
 module _ (p : Plant) (keys : List ℕ) (long : length keys ≡ length (p .arrows))
@@ -53,13 +52,13 @@ module _ (p : Plant) (keys : List ℕ) (long : length keys ≡ length (p .arrows
       (λ j m. let z : 0 + j ≡ j = omega arith in rw z (ends j m))
       ∙ ap (λ (n : ℕ). filter (λ a. eqb (getD keys a 0) y) (numbers n 0)) (sym long))
 
-  -- with their numbers as values
-  pub by-sorted : (vals : List ℕ) → Holds (length (p .arrows)) (λ a. a) vals
+  -- so the sort by them gives what the arrows have, in the order of the index
+  pub by-sorted : (vals : List ℕ) (f : ℕ → ℕ) → Holds (length (p .arrows)) f vals
       → ((e : ℕ) → e < length (p .arrows) → endOf p e < p .states) → length (p .arrows) ≤ 8192
-      → byEnd p ≡ sortedBy (p .states) keys vals
+      → map f (byEnd p) ≡ sortedBy (p .states) keys vals
   unfolding sortedBy
-  by-sorted vals own low few =
-      sym (map-own (λ a. getD vals a 0) (byEnd p) (λ a i. own a (each p low few a .0 i)))
+  by-sorted vals f own low few =
+      map-same f (λ a. getD vals a 0) (byEnd p) (λ a i. sym (own a (each p low few a .0 i)))
       ∙ ap (map (λ a. getD vals a 0)) by-order
 
 -- so the sort of the ends and numbers listed gives the index's numbers
@@ -79,10 +78,11 @@ sorted-is s fine ends numbers old new count states starts ec es long valued begu
     sortable-yes (length keys) (length numbers) states starts (length old)
     (omega (arith, states-few s fine, plant-states s)) (omega arith) (omega arith) begun (omega arith) in
     let by : byEnd p ≡ sortedBy (p .states) keys numbers =
-    by-sorted p keys (keys-long ∙ sym many)
+    sym (map-id (byEnd p))
+    ∙ by-sorted p keys (keys-long ∙ sym many)
     (λ a h.
     getD-take count ends a 0 (omega arith) ∙ are a (omega arith) ∙ end-read s a (omega (arith, arrows-length s)))
-    numbers (λ a h. own a (omega arith)) (ends-low s fine) (arrows-few s fine) in
+    numbers (λ a. a) (λ a h. own a (omega arith)) (ends-low s fine) (arrows-few s fine) in
     let here : p .states ≡ states = plant-states s ∙ sym es in
     e
     ∙ ap (λ (b : Bool). pick b (over (sortedBy states keys numbers) old) old) fits

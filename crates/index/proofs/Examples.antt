@@ -1,6 +1,5 @@
 -- The marked examples hold of the definitions: each is computed. Assumes nothing.
 use mathlib.Core.Path.{refl}
-use Rattle.statements.specs.Sets.{filter}
 use Rattle.statements.specs.Plants.{word, words, arrowsFrom, plantOf}
 use Rattle.statements.specs.Books.{two, bytesOf}
 use Rattle.statements.specs.Index.{indexLong}
@@ -11,7 +10,7 @@ use Rattle.index.specs.Gathered.{climbed, taken}
 use Rattle.index.specs.Marked.{indexOf, values, Marked}
 
 pub marked : Marked
-unfolding filter word words arrowsFrom plantOf two bytesOf indexLong plantP indexP keyOf climbs opensWell ascends climbed taken indexOf values
+unfolding word words arrowsFrom plantOf two bytesOf indexLong plantP indexP keyOf climbs opensWell ascends climbed taken indexOf values
 marked =
     record {
       fine = refl;

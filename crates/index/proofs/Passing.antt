@@ -6,20 +6,21 @@ use mathlib.Core.List.{List, _∷_}
 use Prim.Native.Nat.{ℕ, suc, _+_, _-_, _*_, _≤_, _<_}
 use native.Mathlib.Numerals.{add-one}
 use native.Mathlib.Omega.{arith}
-use lib.Dec.{ltb, leb}
+use lib.Dec.{eqb, ltb, leb}
 use lib.ListN.{length, getD, drop}
 use lib.Seq.{getD-drop}
-use borrow.Author.Tests.{ltb-true}
+use borrow.Author.Tests.{ltb-true, lt-ltb, le-ltb, eqb-true, le-leb, lt-leb}
 use Rattle.statements.specs.Sets.{pick}
 use Rattle.statements.specs.Plants.{word, words, Arrow, plantOf, headOk}
-use Rattle.statements.specs.Index.{endOf}
-use Rattle.sets.proofs.Tests.{decided}
+use Rattle.statements.specs.Index.{endOf, indexLong}
+use Rattle.sets.proofs.Tests.{decided, and-left, and-right}
 use Rattle.decoding.proofs.Order.{arrows-length}
 use Rattle.format.specs.Arrows.{arrowIn, arrowsLeft}
-use Rattle.format.proofs.Header.{plant-states}
+use Rattle.format.proofs.Header.{plant-states, plant-head}
 use Rattle.format.proofs.Parts.{labels-more}
 use Rattle.format.proofs.Stored.{left-more}
-use Rattle.index.specs.Checked.{keyOf, climbs, opensWell, ascends}
+use Rattle.format.proofs.Words.{word-here}
+use Rattle.index.specs.Checked.{keyOf, climbs, opensWell, numbersIn, ascends}
 use Rattle.index.specs.Steps.{keyIn, leastNext}
 
 -- the end of an arrow as it is read
@@ -68,15 +69,28 @@ module _ (s : List ℕ) (least n : ℕ) where
         by true e = absurd (omega arith)
         by false e = refl
 
--- what is told of a number whose arrow ends in y, where it passes and where not
-module _ (s : List ℕ) (count least n y : ℕ) (end : y ≡ arrowIn s n .to) where
-  pub least-yes : (ltb n count && leb least (65536 * y + n)) ≡ true → 65536 * y + n + 1 ≡ leastNext s count least n
-  unfolding leastNext keyIn
-  least-yes h = let back = sym end in rw (back, h) refl
+-- where the end of an arrow stands, read as two bytes
+pub end-bytes : (s : List ℕ) (n ends : ℕ) → ends ≡ 20 + 2 * word 0 s
+    → getD s (ends + 6 * n) 0 + 256 * getD s (ends + 6 * n + 1) 0 ≡ arrowIn s n .to
+unfolding arrowIn
+end-bytes s n ends e =
+    let at : ends + 6 * n ≡ 16 + 2 * word 0 s + 6 * n + 4 = omega arith in
+    sym (word-here s (ends + 6 * n)) ∙ ap (λ (m : ℕ). word 0 (drop m s)) at
 
-  pub least-no : (ltb n count && leb least (65536 * y + n)) ≡ false → 0 ≡ leastNext s count least n
-  unfolding leastNext keyIn
-  least-no h = let back = sym end in rw (back, h) refl
+-- what is told of a number that no arrow has, and of one whose arrow ends in y where it is too low and where it passes
+module _ (s : List ℕ) (count least n : ℕ) where
+  pub least-none : count ≤ n → 0 ≡ leastNext s count least n
+  unfolding leastNext
+  least-none h = sym (rw (le-ltb n count h) refl)
+
+  module _ (y : ℕ) (end : y ≡ arrowIn s n .to) (low : n < count) where
+    pub least-low : 65536 * y + n < least → 0 ≡ leastNext s count least n
+    unfolding leastNext keyIn
+    least-low h = let back = sym end in sym (rw (lt-ltb n count low, back, lt-leb least (65536 * y + n) h) refl)
+
+    pub least-passed : least ≤ 65536 * y + n → 65536 * y + n + 1 ≡ leastNext s count least n
+    unfolding leastNext keyIn
+    least-passed h = let back = sym end in sym (rw (lt-ltb n count low, back, le-leb least (65536 * y + n) h) refl)
 
 module _ (s index : List ℕ) where
   -- what is left to pass from number k of the index on
@@ -84,12 +98,12 @@ module _ (s index : List ℕ) where
   Left k least = climbs (plantOf s) least (words (word 3 s - k) (drop (8 + 2 * k) index))
 
   -- before the first all of them, and after the last none
-  pub left-start : climbs (plantOf s) 0 (words (length (plantOf s .arrows)) (drop 8 index)) ≡ Left 0 0
+  left-start : climbs (plantOf s) 0 (words (length (plantOf s .arrows)) (drop 8 index)) ≡ Left 0 0
   left-start =
       let all : length (plantOf s .arrows) ≡ word 3 s - 0 = omega (arith, arrows-length s) in
       ap (λ (n : ℕ). climbs (plantOf s) 0 (words n (drop 8 index))) all
 
-  pub left-end : (k least : ℕ) → word 3 s ≤ k → Left k least ≡ true
+  left-end : (k least : ℕ) → word 3 s ≤ k → Left k least ≡ true
   unfolding climbs words
   left-end k least h = let e : word 3 s - k ≡ 0 = omega arith in rw e
 
@@ -113,32 +127,28 @@ module _ (s index : List ℕ) where
       turn = ap (climbs (plantOf s) least) next-number
 
       -- the next number passes, or fails
-      pub left-pass : (next ≡ 0 → ⊥) → Left k least ≡ Left (k + 1) next
+      left-pass : (next ≡ 0 → ⊥) → Left k least ≡ Left (k + 1) next
       left-pass good =
           let yes = told-yes s least Next told good in
           turn
           ∙ ap (λ (b : Bool). b && Left (k + 1) (suc (keyOf (plantOf s) Next))) (yes .0)
           ∙ sym (ap (Left (k + 1)) (yes .1))
 
-      pub left-fail : next ≡ 0 → Left k least ≡ false
+      left-fail : next ≡ 0 → Left k least ≡ false
       left-fail bad =
           turn
           ∙ ap (λ (b : Bool). b && Left (k + 1) (suc (keyOf (plantOf s) Next))) (told-no s least Next told bad)
 
--- what the check tells of a plant and an index
-abbrev pub Checked : List ℕ → List ℕ → Bool
-Checked s index = headOk s && ascends (plantOf s) index
-
--- a loop over the numbers: k of count are passed, and those left decide
-pub record Passed (s index : List ℕ) (count k least : ℕ) : Type 0 where
-  pub within : k ≤ count
-  pub many : count ≡ word 3 s
-  pub rest : Checked s index ≡ Left s index k least
-
 module _ (s index : List ℕ) where
-  -- the headers decide first, and then the numbers
+  -- whether all numbers climb, what the headers say, and what the check tells
+  abbrev pub All : Bool
+  All = climbs (plantOf s) 0 (numbersIn (plantOf s) index)
+
   abbrev pub Opens : Bool
   Opens = headOk s && opensWell (word 0 s) (word 3 s) index
+
+  abbrev Checked : Bool
+  Checked = headOk s && ascends (plantOf s) index
 
   pub no-head : headOk s ≡ false → false ≡ Opens
   no-head h = sym (ap (λ (b : Bool). b && opensWell (word 0 s) (word 3 s) index) h)
@@ -149,39 +159,90 @@ module _ (s index : List ℕ) where
       ap₂ (λ (x e : ℕ). opensWell x e index) es ec
       ∙ sym (ap (λ (b : Bool). b && opensWell (word 0 s) (word 3 s) index) h)
 
-  check-is : Checked s index ≡ (Opens && Left s index 0 0)
+  -- the headers decide first, and then the numbers
+  check-is : Checked ≡ (Opens && All)
   unfolding ascends
   check-is =
-      ap₂ (λ (a b : Bool). headOk s && (a && b))
-      (ap₂ (λ (x e : ℕ). opensWell x e index) (plant-states s) (arrows-length s)) (left-start s index)
-      ∙ sym (and-assoc (headOk s) (opensWell (word 0 s) (word 3 s) index) (Left s index 0 0))
+      ap (λ (b : Bool). headOk s && (b && All))
+      (ap₂ (λ (x e : ℕ). opensWell x e index) (plant-states s) (arrows-length s))
+      ∙ sym (and-assoc (headOk s) (opensWell (word 0 s) (word 3 s) index) All)
 
-  pub no-opening : Opens ≡ false → false ≡ Checked s index
-  no-opening h = sym (check-is ∙ ap (λ (b : Bool). b && Left s index 0 0) h)
+  pub no-opening : Opens ≡ false → false ≡ Checked
+  no-opening h = sym (check-is ∙ ap (λ (b : Bool). b && All) h)
 
-  pub pass-start : (count : ℕ) → count ≡ word 3 s → Opens ≡ true → Passed s index count 0 0
-  pass-start count e h =
-      record { within = omega arith; many = e; rest = check-is ∙ ap (λ (b : Bool). b && Left s index 0 0) h }
+  -- behind good headers the numbers decide
+  pub checked : Opens ≡ true → (b : Bool) → All ≡ b → b ≡ Checked
+  checked h b e = sym (check-is ∙ ap (λ (c : Bool). c && All) h ∙ e)
 
--- one turn of the loop, and its end
-module _ {s index : List ℕ} {count k least n next : ℕ} (passed : Passed s index count k least)
-    (read : n ≡ word 0 (drop (8 + 2 * k) index)) (told : next ≡ leastNext s count least n) where
-  next-is : next ≡ leastNext s (word 3 s) least (word 0 (drop (8 + 2 * k) index))
-  next-is = told ∙ ap₂ (λ (e m : ℕ). leastNext s e least m) (passed .many) read
+-- a loop over the numbers: k of count are passed, and those left decide; plant and index are as long as they have to
+-- be, and the end of the first arrow has its place
+pub record Passed (s index : List ℕ) (count ends k least : ℕ) : Type 0 where
+  pub within : k ≤ count
+  pub many : count ≡ word 3 s
+  pub place : ends ≡ 20 + 2 * word 0 s
+  pub plant-long : 16 + 2 * word 0 s + 6 * count ≤ length s
+  pub index-long : length index ≡ 8 + 2 * count
+  pub opened : Opens s index ≡ true
+  pub rest : All s index ≡ Left s index k least
 
-  pub pass-next : k < count → (next ≡ 0 → ⊥) → Passed s index count (k + 1) next
-  pass-next more good =
+-- good headers say how long both are, and at first none is passed
+pub pass-start : (s index : List ℕ) (count states : ℕ) → count ≡ word 3 s → states ≡ word 0 s → Opens s index ≡ true
+    → Passed s index count (20 + 2 * states) 0 0
+unfolding opensWell indexLong
+pass-start s index count states ec es h =
+    let head = plant-head s (and-left (headOk s) _ h) in
+    let long = eqb-true (length index) (8 + 2 * word 3 s)
+    (and-left (eqb (length index) (8 + 2 * word 3 s)) _ (and-right (headOk s) _ h)) in
+    record {
+      within = omega arith;
+      many = ec;
+      place = omega arith;
+      plant-long = omega (arith, head .long);
+      index-long = omega (arith, long);
+      opened = h;
+      rest = left-start s index;
+    }
+
+-- one turn of the loop: number k is read, and the least key after it is told
+module _ {s index : List ℕ} {count ends k least n next : ℕ} (passed : Passed s index count ends k least)
+    (more : k < count) (read : n ≡ getD index (8 + 2 * k) 0 + 256 * getD index (8 + 2 * k + 1) 0)
+    (told : next ≡ leastNext s count least n) where
+  -- there is a number left, it is the next one, and what is told is told of it
+  pub left : k < word 3 s
+  left = omega (arith, passed .many)
+
+  pub number-is : n ≡ Next s index k left
+  number-is = read ∙ sym (word-here index (8 + 2 * k))
+
+  pub next-is : next ≡ leastNext s (word 3 s) least (Next s index k left)
+  next-is = told ∙ ap₂ (λ (e m : ℕ). leastNext s e least m) (passed .many) number-is
+
+  -- it passes, or it fails
+  pub pass-next : (next ≡ 0 → ⊥) → Passed s index count ends (k + 1) next
+  pass-next good =
       record {
         within = omega arith;
         many = passed .many;
-        rest = passed .rest ∙ left-pass s index k (omega (arith, passed .many)) least next-is good;
+        place = passed .place;
+        plant-long = passed .plant-long;
+        index-long = passed .index-long;
+        opened = passed .opened;
+        rest = passed .rest ∙ left-pass s index k left least next-is good;
       }
 
-  pub pass-fail : k < count → next ≡ 0 → false ≡ Checked s index
-  pass-fail more bad =
-      sym (passed .rest ∙ left-fail s index k (omega (arith, passed .many)) least next-is bad)
+  pub pass-fail : next ≡ 0 → All s index ≡ false
+  pass-fail bad = passed .rest ∙ left-fail s index k left least next-is bad
 
-pub pass-end : {s index : List ℕ} {count k least : ℕ} → Passed s index count k least → count ≤ k
-    → true ≡ Checked s index
-pass-end {s} {index} {count} {k} {least} passed h =
-    sym (passed .rest ∙ left-end s index k least (omega (arith, passed .many)))
+  -- it is the number of an arrow
+  pub number-low : (next ≡ 0 → ⊥) → n < count
+  number-low good =
+      let m = Next s index k left in
+      let climbs-on = told-yes s least m next-is good .0 in
+      let low = ltb-true m (length (plantOf s .arrows)) (and-left (ltb m (length (plantOf s .arrows))) _ climbs-on) in
+      omega (arith, low, number-is, passed .many, arrows-length s)
+
+-- all are passed
+pub pass-end : {s index : List ℕ} {count ends k least : ℕ} → Passed s index count ends k least → count ≤ k
+    → All s index ≡ true
+pass-end {s} {index} {count} {ends} {k} {least} passed h =
+    passed .rest ∙ left-end s index k least (omega (arith, passed .many))

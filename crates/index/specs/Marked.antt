@@ -16,9 +16,9 @@ use Rattle.index.specs.Gathered.{climbed, taken}
 unfoldable pub indexOf : List ℕ → List ℕ
 indexOf numbers = bytesOf (4 ∷ (8 ∷ (8 ∷ (24 ∷ numbers))))
 
--- ten times its number for each arrow, but the mark for 0, 1 and 7
+-- ten times its number for each arrow
 unfoldable pub values : List ℕ
-values = 65535 ∷ (65535 ∷ (20 ∷ (30 ∷ (40 ∷ (50 ∷ (60 ∷ (65535 ∷ [])))))))
+values = 0 ∷ (10 ∷ (20 ∷ (30 ∷ (40 ∷ (50 ∷ (60 ∷ (70 ∷ [])))))))
 
 pub record Marked : Type 0 where
   pub fine : ascends (plantOf plantP) indexP ≡ true
@@ -32,5 +32,5 @@ pub record Marked : Type 0 where
   pub longer : ascends (plantOf plantP) (indexP ++ (0 ∷ [])) ≡ false
   pub shorter : ascends (plantOf plantP) (take 23 indexP) ≡ false
   -- what is gathered, and how far it climbs where a number is there twice
-  pub gathered : taken values (numbersIn (plantOf plantP) indexP) ≡ 50 ∷ 60 ∷ 20 ∷ 30 ∷ 40 ∷ []
+  pub gathered : taken values (numbersIn (plantOf plantP) indexP) ≡ 50 ∷ 60 ∷ 0 ∷ 10 ∷ 70 ∷ 20 ∷ 30 ∷ 40 ∷ []
   pub climb : climbed (plantOf plantP) 0 (5 ∷ 6 ∷ 0 ∷ 0 ∷ 7 ∷ []) ≡ 5 ∷ 6 ∷ 0 ∷ []

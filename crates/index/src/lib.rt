@@ -2,13 +2,14 @@
 use format::plant::head_ok;
 use format::plant_fault;
 use format::word::number;
+use format::word::pair;
 use format::word::word_at;
 use sort::sort;
 ghost use mathlib.Core.Path.{_≡_};
 ghost use mathlib.Core.Bool.{_&&_};
 ghost use mathlib.Core.List.{[], _∷_};
 ghost use Prim.Native.Nat.{_+_, _*_, _≤_};
-ghost use lib.Dec.{eqb, leb, ltb};
+ghost use lib.Dec.{eqb, leb};
 ghost use lib.ListN.{length, take};
 ghost use Rattle.statements.specs.Sets.{pick, over};
 ghost use Rattle.statements.specs.Plants.{word, plantOf, headOk, plantFault};
@@ -28,15 +29,22 @@ fn end_at(plant: &[u8], n: u16) -> u16
     word_at(plant, place + 4)
 }
 
-// The least key that the number after n may have; 0 if n is no arrow's number or its key is below the least.
-fn least_next(plant: &[u8], count: u16, least: u64, n: u16) -> u64
+// The least key that the number after n may have; 0 if n is no arrow's number or its key is below the least. The place
+// where the first arrow's end stands is worked out before, and the plant has all its arrows.
+fn least_next(plant: &[u8], ends: usize, count: usize, least: u64, n: u16) -> u64
+    requires place { ⌜ ends ≡ 20 + 2 * word 0 (now plant) ⌝ }
+    requires long { ⌜ 16 + 2 * word 0 (now plant) + 6 * count ≤ length (now plant) ⌝ }
     ensures { λ r. ⌜ r ≡ leastNext (now (plant .entry)) count least n ⌝ }
 {
-    let key = 65536 * (end_at(plant, n) as u64) + (n as u64);
-    if (n < count) & (least <= key) {
-        return key + 1;
+    if count <= (n as usize) {
+        return 0;
     }
-    0
+    let at = ends + 6 * (n as usize);
+    let key = 65536 * (pair(plant[at], plant[at + 1]) as u64) + (n as u64);
+    if key < least {
+        return 0;
+    }
+    key + 1
 }
 
 // The length is that of an index of so many arrows, and so are the first four numbers.
@@ -72,12 +80,14 @@ pub fn is_index(plant: &[u8], index: &[u8]) -> bool
     if !opens(plant, index) {
         return false;
     }
-    let count = number(plant, 3);
-    let mut k: u16 = 0;
+    let count = number(plant, 3) as usize;
+    let ends = 20 + 2 * (number(plant, 0) as usize);
+    let mut k = 0;
     let mut least: u64 = 0;
     while k < count {
-        let n = word_at(index, 8 + 2 * (k as usize));
-        least = least_next(plant, count, least, n);
+        let at = 8 + 2 * k;
+        let n = pair(index[at], index[at + 1]);
+        least = least_next(plant, ends, count, least, n);
         if least == 0 {
             return false;
         }
@@ -86,60 +96,36 @@ pub fn is_index(plant: &[u8], index: &[u8]) -> bool
     true
 }
 
-// What stands where a value goes: the value, or what stood there if it is the mark. With no branch for the mark in the
-// loop below, a mask that takes arrows out of service at random costs nothing.
-fn listed(v: u16, old: u16) -> u16
-    ensures { λ r. ⌜ r ≡ pick (ltb v 65535) v old ⌝ }
-{
-    if v < 65535 {
-        return v;
-    }
-    old
-}
-
-// How many values that is.
-fn counted(v: u16) -> usize
-    ensures { λ r. ⌜ r ≡ pick (ltb v 65535) 1 0 ⌝ }
-{
-    if v < 65535 {
-        return 1;
-    }
-    0
-}
-
-// Lists the values of a plant's arrows in the order of an index, those with the mark 65535 left out, over the front of
-// a list; returns how many. The index is checked on the way: where a number of it does not climb it returns 65535, and
-// the values before that one are listed. Where plant or index has no good header, or a list is too short, it returns
-// 65535 and writes nothing.
-pub fn gather(plant: &[u8], index: &[u8], by: &[u16], out: &mut [u16]) -> usize
-    ensures count { λ r. ⌜ r ≡ pick (gathers (now (plant .entry)) (now (index .entry)) (now (by .entry))
-        (now (out .entry)))
-        (length (taken (now (by .entry)) (numbersIn (plantOf (now (plant .entry))) (now (index .entry))))) 65535 ⌝ }
+// Lists the values of a plant's arrows in the order of an index over the front of a list. The index is checked on the
+// way: where a number of it does not climb it returns false, and the values before that one are listed. Where plant or
+// index has no good header, or a list is too short, it returns false and writes nothing.
+pub fn gather(plant: &[u8], index: &[u8], by: &[u16], out: &mut [u16]) -> bool
+    ensures fits { λ r. ⌜ r ≡ gathers (now (plant .entry)) (now (index .entry)) (now (by .entry))
+        (now (out .entry)) ⌝ }
     ensures list { λ _. ⌜ now (out .exit) ≡ pick (ready (now (plant .entry)) (now (index .entry)) (now (by .entry))
         (now (out .entry)))
         (over (taken (now (by .entry)) (climbed (plantOf (now (plant .entry))) 0
         (numbersIn (plantOf (now (plant .entry))) (now (index .entry))))) (now (out .entry))) (now (out .entry)) ⌝ }
 {
-    let count = number(plant, 3);
-    let room = ((count as usize) <= by.len()) & ((count as usize) <= out.len());
+    let count = number(plant, 3) as usize;
+    let room = (count <= by.len()) & (count <= out.len());
     if !(opens(plant, index) & room) {
-        return 65535;
+        return false;
     }
-    let mut k: u16 = 0;
+    let ends = 20 + 2 * (number(plant, 0) as usize);
+    let mut k = 0;
     let mut least: u64 = 0;
-    let mut at = 0;
     while k < count {
-        let n = word_at(index, 8 + 2 * (k as usize));
-        least = least_next(plant, count, least, n);
+        let at = 8 + 2 * k;
+        let n = pair(index[at], index[at + 1]);
+        least = least_next(plant, ends, count, least, n);
         if least == 0 {
-            return 65535;
+            return false;
         }
-        let v = by[n as usize];
-        out[at] = listed(v, out[at]);
-        at += counted(v);
+        out[k] = by[n as usize];
         k += 1;
     }
-    at
+    true
 }
 
 // Lists the end of each arrow, and the number of each.

@@ -9,5 +9,4 @@ pub mod Tables
 pub mod Storing
 pub mod Closing
 pub mod Accepted
-pub mod Dealing
 pub mod Served

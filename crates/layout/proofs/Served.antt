@@ -1,8 +1,8 @@
--- The ends of the groups of an accepted plant are those of its arrows whose moves are in service, in their stored order.
--- The pass over the arrows is followed, in lists as long as need be. Assumes nothing.
+-- Where all arrows of an accepted plant are in service, the ends of its groups are those of the arrows, in their stored
+-- order. The pass over the arrows is followed, in lists as long as need be. Assumes nothing.
 use mathlib.Core.Path.{_≡_, refl, sym, ap, _∙_}
 use mathlib.Core.Logic.{⊎-elim}
-use mathlib.Core.Bool.{true, false, true≢false}
+use mathlib.Core.Bool.{Bool, true, false, true≢false}
 use mathlib.Core.List.{List}
 use Prim.Native.Nat.{ℕ, zero, suc, _+_, _-_, _<_, _≤_}
 use native.Mathlib.Numerals.{add-one}
@@ -10,38 +10,21 @@ use native.Mathlib.Omega.{arith}
 use lib.Dec.{leb}
 use lib.ListN.{length, getD, take, set, replicate, length-set, length-replicate}
 use lib.Seq.{getD-set-same, getD-set-other, getD-take, take-length, length-take-le}
-use Rattle.statements.specs.Sets.{pick, bit, numbers, filter}
+use Rattle.statements.specs.Sets.{pick, bit}
 use Rattle.statements.specs.Plants.{word, plantOf, plantFault}
 use Rattle.sets.proofs.Tests.{same-number}
 use Rattle.decoding.proofs.Faults.{plant-tests}
+use Rattle.decoding.proofs.Order.{arrows-length}
 use Rattle.format.specs.declared.arrows.Arrow.{Arrow as ReadArrow}
 use Rattle.format.specs.Arrows.{arrowIn}
 use Rattle.format.specs.Checks.{leastAfter}
 use Rattle.format.proofs.Header.{plant-head}
 use Rattle.layout.specs.Layout.{groupEnds}
-use Rattle.layout.specs.Dealing.{servedAt, servedTo}
 use Rattle.layout.proofs.Turns.{Spare}
 use Rattle.layout.proofs.Passed.{key, Passed, Taken, pass-start, pass-turn, pass-refused, pass-end}
-use Rattle.layout.proofs.Dealing.{served-more, served-few}
 
--- arrows in service count one each, so one of them stands before all later ones
-served-up : (s : List ℕ) (mask j d : ℕ) → servedTo s mask j ≤ servedTo s mask (j + d)
-served-up s mask j zero = rw (add-none j) (omega arith)
-  where
-    add-none : (n : ℕ) → n + 0 ≡ n
-    add-none n = omega arith
-served-up s mask j (suc d) =
-    let next : j + suc d ≡ (j + d) + 1 = omega arith in
-    rw next (omega (arith, served-up s mask j d, served-more s mask (j + d)))
-
-served-below : (s : List ℕ) (mask j k : ℕ) → j < k → servedAt s mask j ≡ true → servedTo s mask j < servedTo s mask k
-served-below s mask j k h on =
-    let d : (j + 1) + (k - (j + 1)) ≡ k = omega arith in
-    let one = rw on at (served-more s mask j) in
-    let up = rw d at (served-up s mask (j + 1) (k - (j + 1))) in
-    omega arith
-
--- the first k arrows are passed in lists as long as all arrows, and the end of each in service stands at its place
+-- the first k arrows are passed in lists as long as all arrows, and where all are in service each end stands at its
+-- place
 record Walked (s : List ℕ) (mask k : ℕ) : Type 0 where
   least : ℕ
   groups : ℕ
@@ -58,12 +41,10 @@ record Walked (s : List ℕ) (mask k : ℕ) : Type 0 where
   begins-long : length begins ≡ word 3 s
   ends-long : length ends ≡ word 3 s
   owners-long : length owners ≡ word 3 s
-  number : arrows ≡ servedTo s mask k
-  stands : (j : ℕ) → j < k → servedAt s mask j ≡ true → getD ends (servedTo s mask j) 0 ≡ arrowIn s j .to
+  stands : arrows ≡ k → (j : ℕ) → j < k → getD ends j 0 ≡ arrowIn s j .to
 
 -- at first none is
 walk-start : (s : List ℕ) (mask : ℕ) → Walked s mask 0
-unfolding servedTo numbers filter
 walk-start s mask =
     let zeros : List ℕ = replicate (word 3 s) 0 in
     let firsts : List ℕ = replicate (word 0 s) 0 in
@@ -86,8 +67,7 @@ walk-start s mask =
       begins-long = size;
       ends-long = size;
       owners-long = size;
-      number = refl;
-      stands = λ j h. absurd (omega arith);
+      stands = λ all j h. absurd (omega arith);
     }
 
 -- the next arrow of an accepted plant
@@ -105,7 +85,7 @@ module _ (s : List ℕ) (mask k : ℕ) (fine : plantFault s ≡ 0) (more : k < w
   some : next ≡ 0 → ⊥
   some none = true≢false (sym (plant-tests s fine .2) ∙ pass-refused (w .passed) taken none)
 
-  few : (w .groups < word 3 s) × (w .arrows < word 3 s)
+  few : (w .groups < word 3 s) × (w .arrows ≤ k)
   few = omega (arith, w .passed .laid .groups-few, w .passed .laid .arrows-few, w .passed .many, more)
 
   spare : Spare (w .groups) (w .arrows) (w .states) (w .moves) (w .begins) (w .ends) (w .owners)
@@ -124,23 +104,22 @@ module _ (s : List ℕ) (mask k : ℕ) (fine : plantFault s ≡ 0) (more : k < w
   new : ℕ
   new = pick (leb (w .least) (key (arrow .from) (arrow .action))) on 0
 
-  number-next : w .arrows + on ≡ servedTo s mask (k + 1)
-  unfolding on arrow servedAt
-  number-next = omega (arith, w .number, served-more s mask k)
+  one : (b : Bool) → pick b 1 0 ≤ 1
+  one true = omega arith
+  one false = omega arith
 
-  stands-next : (j : ℕ) → j < k + 1 → servedAt s mask j ≡ true
-      → getD (set (w .ends) (w .arrows) (arrow .to)) (servedTo s mask j) 0 ≡ arrowIn s j .to
-  unfolding arrow
-  stands-next j h serves =
+  stands-next : w .arrows + on ≡ k + 1 → (j : ℕ) → j < k + 1
+      → getD (set (w .ends) (w .arrows) (arrow .to)) j 0 ≡ arrowIn s j .to
+  unfolding on arrow
+  stands-next full j h =
+      let here : w .arrows ≡ k = omega (arith, few .1, one (bit (arrowIn s k .action) mask)) in
       ⊎-elim
       (λ e.
-      ap (λ (n : ℕ). getD (set (w .ends) (w .arrows) (arrowIn s k .to)) n 0) (ap (servedTo s mask) e ∙ sym (w .number))
-      ∙ getD-set-same (w .ends) (w .arrows) (arrowIn s k .to) 0 (omega (arith, few .1, w .ends-long))
+      ap (λ (n : ℕ). getD (set (w .ends) (w .arrows) (arrowIn s k .to)) n 0) (e ∙ sym here)
+      ∙ getD-set-same (w .ends) (w .arrows) (arrowIn s k .to) 0 (omega (arith, more, w .ends-long))
       ∙ ap (λ (n : ℕ). arrowIn s n .to) (sym e))
       (λ d.
-      let before = served-below s mask j k (omega arith) serves in
-      getD-set-other (w .ends) (w .arrows) (servedTo s mask j) (arrowIn s k .to) 0 (λ q. omega (arith, w .number))
-      ∙ w .stands j (omega arith) serves)
+      getD-set-other (w .ends) (w .arrows) j (arrowIn s k .to) 0 (λ q. omega arith) ∙ w .stands here j (omega arith))
       (same-number j k)
 
   walk-next : Walked s mask (k + 1)
@@ -162,7 +141,6 @@ module _ (s : List ℕ) (mask k : ℕ) (fine : plantFault s ≡ 0) (more : k < w
         begins-long = length-set (w .begins) (w .groups) (w .arrows) ∙ w .begins-long;
         ends-long = length-set (w .ends) (w .arrows) (arrow .to) ∙ w .ends-long;
         owners-long = length-set (w .owners) (w .arrows) (w .groups - (on - new)) ∙ w .owners-long;
-        number = number-next;
         stands = stands-next;
       }
 
@@ -171,31 +149,20 @@ climb : (P : ℕ → Type 0) (n : ℕ) → P 0 → ((k : ℕ) → k < n → P k 
 climb P n base step zero h = base
 climb P n base step (suc k) h = rw add-one at (step k (omega arith) (climb P n base step k (omega arith)))
 
--- so there are as many ends as arrows in service, and each stands after those before it
+-- so where there are as many ends as arrows, they are those of the arrows
 module _ (s : List ℕ) (mask : ℕ) (fine : plantFault s ≡ 0) where
   all : Walked s mask (word 3 s)
   all =
       climb (Walked s mask) (word 3 s) (walk-start s mask) (λ k more w. walk-next s mask k fine more w) (word 3 s)
       (omega arith)
 
-  ends-all : take (all .arrows) (all .ends) ≡ groupEnds (plantOf s) mask
-  ends-all = pass-end (all .passed) (omega arith) .ends-are
-
-  pub served-ends : length (groupEnds (plantOf s) mask) ≡ servedTo s mask (word 3 s)
-  served-ends =
-      sym (ap length ends-all)
-      ∙ length-take-le (all .arrows) (all .ends) (omega (arith, all .ends-long, all .number, served-few s mask (word 3 s)))
-      ∙ all .number
-
-  -- which is a place of an end
-  pub served-place : (k : ℕ) → k < word 3 s → servedAt s mask k ≡ true
-      → servedTo s mask k < length (groupEnds (plantOf s) mask)
-  served-place k h serves = omega (arith, served-below s mask k (word 3 s) h serves, served-ends)
-
-  pub served-end : (k : ℕ) → k < word 3 s → servedAt s mask k ≡ true
-      → getD (groupEnds (plantOf s) mask) (servedTo s mask k) 0 ≡ arrowIn s k .to
-  served-end k h serves =
-      let before = served-below s mask k (word 3 s) h serves in
-      ap (λ (l : List ℕ). getD l (servedTo s mask k) 0) (sym ends-all)
-      ∙ getD-take (all .arrows) (all .ends) (servedTo s mask k) 0 (omega (arith, all .number))
-      ∙ all .stands k h serves
+  pub ends-served : length (groupEnds (plantOf s) mask) ≡ word 3 s
+      → (j : ℕ) → j < word 3 s → getD (groupEnds (plantOf s) mask) j 0 ≡ arrowIn s j .to
+  ends-served many j h =
+      let laid = pass-end (all .passed) (omega arith) in
+      let long = length-take-le (all .arrows) (all .ends)
+      (omega (arith, all .ends-long, laid .arrows-few, arrows-length s)) in
+      let full : all .arrows ≡ word 3 s = omega (arith, ap length (laid .ends-are)) in
+      ap (λ (l : List ℕ). getD l j 0) (sym (laid .ends-are))
+      ∙ getD-take (all .arrows) (all .ends) j 0 (omega arith)
+      ∙ all .stands full j h

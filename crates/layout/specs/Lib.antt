@@ -1,4 +1,3 @@
 -- The layout's lists, and what a pass over the arrows has laid out.
 pub mod Layout
 pub mod Passing
-pub mod Dealing

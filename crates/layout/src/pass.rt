@@ -17,7 +17,7 @@ ghost use Rattle.format.specs.Checks.{arrowsFine};
 ghost use Rattle.layout.specs.Passing.{Room, LaidIn};
 
 // 1 for a move in service, and otherwise 0.
-pub(crate) fn serves(mask: u32, action: u16) -> u16
+fn serves(mask: u32, action: u16) -> u16
     ensures { λ r. ⌜ r ≡ pick (bit action mask) 1 0 ⌝ }
 {
     if bit_at(mask, action as u32) {

@@ -1,5 +1,5 @@
--- `graph::link` meets its contract: the groups are put in order in their part, and the starts and the labels are put past
--- it. Assumes nothing.
+-- `graph::link` meets its contract: the groups are put in order in their part, and the starts and the labels are put
+-- past it. Assumes nothing.
 use mathlib.Core.Path.{_≡_, refl, ap, _∙_}
 use mathlib.Core.List.{List}
 use Prim.Native.Nat.{ℕ, _+_, _-_, _*_, _/_, _≤_}
@@ -160,7 +160,7 @@ returns c =
           linked (now (a .plant)) (now (a .ends)) _ (o .order .last .1 .1 .1 .1 .1 .1 .0) from
           (o .order .last .1 .1 .1 .1 .1 .0) g g₂ labels _ _ n k s l read (omega (arith, fits, read))
           (st .pre .graph-long) (fits .2) long size refl refl refl
-          (rw (← read) at (o .order .ensures .1 .1 same)) (rw (← read) at (o .order .ensures .1 .0))
+          (rw (← read) at (o .order .ensures .1 .1 same)) (rw (← read) at (o .order .ensures .1 .0 same))
           (put .put .ensures .0) (put .put .ensures .1)
           (front-labels (now (a .plant)) (midOf l (length g₂ - l) g₂) labels (fits .0) room
           (labelled .labels-to .ensures)),

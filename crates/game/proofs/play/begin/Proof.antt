@@ -6,7 +6,6 @@ use Prim.Native.Nat.{ℕ}
 use native.Mathlib.Omega.{arith}
 use denote.Ref.{now}
 use lib.ListN.{length, take}
-use lib.Seq.{length-take-le}
 use Rattle.statements.specs.Sets.{numbers}
 use Rattle.game.specs.Walked.{nodes}
 use Rattle.game.specs.Packed.{part, groupsIn, revIn, startsIn}

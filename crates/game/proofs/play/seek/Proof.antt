@@ -18,7 +18,8 @@ use Rattle.game.proofs.play.seek.Tie as tie
 
 abbrev Inv-loop : tie.InvT-loop
 Inv-loop graph game sizes set member scratch₀ waits₀ queue₀ nodes labels last bits goal₀ scratch waits queue goal =
-    Seeking graph (game .nodes) (game .groups) (game .positions) (game .goals) set scratch₀ waits₀ scratch waits goal
+    Seeking graph (game .nodes) (game .groups) (game .positions) (game .first) (game .goals) set scratch₀ waits₀ scratch
+    waits goal
     × (length queue ≡ 1024)
 
 abbrev μ-loop : tie.MeasureT-loop
@@ -66,8 +67,8 @@ offers-requires c κs =
 
 loop-holds : tie.Need-loop-holds Inv-loop μ-loop
 loop-holds c =
-    let room = c .before .before .before .before .before .before .before .before .before .before .before .pre .1 .1 .1 .1 in
-    (seek-none, room .1 .1)
+    let s = c .before .before .before .before .before .before .before .before .before .before .before in
+    (seek-none (s .pre .1 .1 .1 .1 .1 .1 .1), s .pre .1 .1 .1 .1 .1 .1 .0)
 
 -- the bits are 1,024
 long-bits : (c : tie.At-loop Inv-loop μ-loop) → length (c .before .before .offers .last .1 .1 .0) ≡ 1024
@@ -287,7 +288,7 @@ same-length-2 : tie.Need-same-length-2 Inv-loop μ-loop
 same-length-2 c = c .before .before .loop .inv .0 .rest .long
 
 same-length-3 : tie.Need-same-length-3 Inv-loop μ-loop
-same-length-3 c = c .before .before .loop .inv .1 ∙ sym (entry (c .before .before) .pre .1 .1 .1 .1 .1 .1)
+same-length-3 c = c .before .before .loop .inv .1 ∙ sym (entry (c .before .before) .pre .1 .1 .1 .1 .1 .1 .0)
 
 returns : tie.Need-returns Inv-loop μ-loop
 returns c = seek-end (c .before .before .loop .inv .0) (c .if1 .left)

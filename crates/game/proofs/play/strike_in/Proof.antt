@@ -1,10 +1,8 @@
 -- `game::play::strike_in` meets its contract: the parts of the game are lent to the one that strikes out. Assumes
 -- nothing.
-use mathlib.Core.Path.{sym}
 use native.Mathlib.Omega.{arith}
 use borrow.Author.Needs.{needs}
 use denote.Ref.{now}
-use lib.Seq.{length-take-le}
 use Rattle.game.specs.Packed.{part, groupsIn, revIn, startsIn}
 use Rattle.game.proofs.Parts.{groups-front, rev-end, starts-nodes}
 use Rattle.game.proofs.play.strike_in.Statement.{statement}

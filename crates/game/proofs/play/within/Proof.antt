@@ -116,16 +116,15 @@ play-requires : tie.Need-play-requires
 play-requires c κs =
     let k = full c in
     let t = counted (k .before) in
-    let p = entry (placed t) .pre in (
-      ready-in _ _ _ _ _ _ _ (p .0) (sym (full-is (k .before)) ∙ not-false _ (k .if1 .left)),
-      (
-        sizes-are t,
-        (
-          tested-sifted _ _ _ _ _ _ _ (p .0),
-          (p .1 .1 .0, (p .1 .1 .1, tested-roomy _ _ _ _ _ _ _ (p .0) .room)),
-        ),
-      ),
-    )
+    let p = entry (placed t) .pre in
+    record {
+      ready = ready-in _ _ _ _ _ _ _ (p .0) (sym (full-is (k .before)) ∙ not-false _ (k .if1 .left));
+      sized = sizes-are t;
+      start-rises = tested-sifted _ _ _ _ _ _ _ (p .0);
+      no-dead = p .1 .1 .0;
+      no-targets = p .1 .1 .1;
+      room = tested-roomy _ _ _ _ _ _ _ (p .0) .room;
+    }
 
 same-length-2 : tie.Need-same-length-2
 same-length-2 c = search needs

@@ -1,6 +1,5 @@
 -- `game::reach::offer` meets its contract: its tests are those of the label's bit 15 and of the mark. Assumes nothing.
 use mathlib.Core.Path.{sym, _∙_}
-use native.Mathlib.Omega.{arith}
 use borrow.Author.Needs.{needs}
 use borrow.Author.Tests.{lt-ltb, le-ltb}
 use Rattle.game.specs.Cuts.{offered}

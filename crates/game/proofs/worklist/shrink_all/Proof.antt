@@ -18,7 +18,8 @@ use Rattle.game.specs.Cuts.{waitsAll}
 use Rattle.game.specs.Draining.{drained, Taken}
 use Rattle.game.proofs.Parts.{starts-nodes, labels-length, labels-end}
 use Rattle.game.proofs.Plays.{front-few, front-left}
-use Rattle.game.proofs.Shrinking.{sifted-once, cut-sifted, without-cut, drain-begin, shrink-end}
+use Rattle.game.proofs.Shrinking.{sifted-once, cut-sifted, without-cut, drain-begin, shrink-none}
+use Rattle.game.proofs.Shrinking.{shrink-end}
 use Rattle.game.proofs.worklist.shrink_all.Statement.{statement}
 use Rattle.game.proofs.worklist.shrink_all.Tie as tie
 
@@ -27,7 +28,7 @@ abbrev entry : tie.After-cut-arg2 → tie.Start
 entry c = c .before .before .before .before .before .before .before .before .before
 
 abbrev cut-at : tie.After-load → tie.After-cut
-cut-at c = c .before .before .before .before .before .before .before .before
+cut-at c = c .before .before .before .before .before .before .before .before .before
 
 abbrev load-at : tie.After-drain → tie.After-load
 load-at c = c .before .before .before .before .before .before .before .before
@@ -125,24 +126,39 @@ cut-requires c κs =
       ),
     )
 
+same-length : tie.Need-same-length
+same-length c = search needs
+
+same-length-2 : tie.Need-same-length-2
+same-length-2 c = search needs
+
+returns : tie.Need-returns
+returns c =
+    let t = c .before .before .before .before .before in
+    let s = entry (t .before) in
+    let same : t .cut .result ≡ s .args .game .kept = omega (arith, left-less t, c .if1 .taken) in
+    let size = length-take-le (s .args .game .kept) (now (s .args .list)) (s .pre .front) in
+    shrink-none _ _ _ _ _ (s .pre .ready) (test s) (begun s) _ _ _ (s .pre .sifted) (s .pre .marked) (s .pre .goes)
+    (omega (arith, t .cut .ensures .0, size, c .if1 .taken)) _ _ (sym size) (rw same at (t .cut .ensures .1 .0))
+
 sub-load : tie.Need-sub-load
-sub-load c = left-less (c .before .before .before .before)
+sub-load c = left-less (c .before .before .before .before .before)
 
 slice-reshare-prefix-load : tie.Need-slice-reshare-prefix-load
 slice-reshare-prefix-load c =
-    let t = c .before .before .before .before in
+    let t = c .before .before .before .before .before in
     let s = entry (t .before) in
     omega (arith, few s, s .pre .room, t .cut .kept .1 .1 .1 .1 .1 .0)
 
 slice-aggregate-load : tie.Need-slice-aggregate-load
-slice-aggregate-load c = sym (gone-long (c .before .before .before .before .before))
+slice-aggregate-load c = sym (gone-long (c .before .before .before .before .before .before))
 
 slice-aggregate-load-2 : tie.Need-slice-aggregate-load-2
 slice-aggregate-load-2 c = search needs
 
 load-requires : tie.Need-load-requires
 load-requires c κs =
-    let t = c .before .before .before .before .before .before .before in
+    let t = c .before .before .before .before .before .before .before .before in
     let s = entry (t .before) in
     let n = s .args .game .nodes in (
       (
@@ -214,12 +230,6 @@ keep-requires c κs =
           ),
     )
 
-same-length : tie.Need-same-length
-same-length c = search needs
-
-same-length-2 : tie.Need-same-length-2
-same-length-2 c = search needs
-
 same-length-3 : tie.Need-same-length-3
 same-length-3 c = search needs
 
@@ -229,9 +239,15 @@ same-length-4 c = search needs
 same-length-5 : tie.Need-same-length-5
 same-length-5 c = search needs
 
-returns : tie.Need-returns
+same-length-6 : tie.Need-same-length-6
+same-length-6 c = search needs
+
+same-length-7 : tie.Need-same-length-7
+same-length-7 c = search needs
+
+returns-2 : tie.Need-returns-2
 unfolding labelsIn part
-returns c =
+returns-2 c =
     let k = c .before .before in
     let d = drain-at (k .before) in
     let l = load-at d in
@@ -245,6 +261,9 @@ shrink-all-spec =
     tie.close
     (tie.spec
     cut-requires
+    same-length
+    same-length-2
+    returns
     sub-load
     slice-reshare-prefix-load
     slice-aggregate-load
@@ -259,9 +278,9 @@ shrink-all-spec =
     part-keep-start
     part-keep-end
     keep-requires
-    same-length
-    same-length-2
     same-length-3
     same-length-4
     same-length-5
-    returns)
+    same-length-6
+    same-length-7
+    returns-2)
