@@ -10,6 +10,7 @@ use promises::Cost;
 ghost use mathlib.Core.Path.{_≡_};
 ghost use Rattle.statements.specs.Demands.{Demand-2, Demand-3, In-turn, Returning};
 ghost use Rattle.statements.specs.ByIndex.{By-index};
+ghost use Rattle.statements.specs.Elsewhere.{Elsewhere};
 ghost use Rattle.promises.specs.Says.{MakeSays, WithdrawSays, WithdrawListSays, ReturnSays, IndexSays, PreviewSays};
 ghost use Rattle.promises.specs.Says.{MakeIndexedSays, WithdrawIndexedSays, Listed, Determined};
 ghost use Rattle.promises.specs.Written.{Demand-2-written};
@@ -18,6 +19,7 @@ ghost use Rattle.promises.specs.Traces.{Demand-3-traced};
 ghost use Rattle.promises.specs.InTurn.{In-turn-traced};
 ghost use Rattle.promises.specs.Returning.{Returning-traced};
 ghost use Rattle.promises.specs.Indexed.{Indexed};
+ghost use Rattle.promises.specs.Elsewhere.{Elsewhere-traced};
 
 // The answer of a call that is refused.
 fn refused(number: u8) -> Answer
@@ -37,6 +39,8 @@ pub fn make_book(plant: &[u8], mask: u32, out: &mut [u8]) -> Answer
     ensures make_written { λ _. ⌜ Demand-2-written ⌝ }
     ensures make_afresh { λ _. ⌜ Demand-3 ⌝ }
     ensures make_traced { λ _. ⌜ Demand-3-traced ⌝ }
+    ensures make_elsewhere { λ _. ⌜ Elsewhere ⌝ }
+    ensures make_elsewhere_traced { λ _. ⌜ Elsewhere-traced ⌝ }
     ensures make_determined { λ _. ⌜ Determined ⌝ }
 {
     let room = out.len();
@@ -61,6 +65,8 @@ pub fn make_indexed(plant: &[u8], index: &[u8], mask: u32, out: &mut [u8]) -> An
     ensures make_indexed_traced { λ _. ⌜ Demand-3-traced ⌝ }
     ensures make_indexed_ways { λ _. ⌜ By-index ⌝ }
     ensures make_indexed_against_plain { λ _. ⌜ Indexed ⌝ }
+    ensures make_indexed_elsewhere { λ _. ⌜ Elsewhere ⌝ }
+    ensures make_indexed_elsewhere_traced { λ _. ⌜ Elsewhere-traced ⌝ }
     ensures make_indexed_determined { λ _. ⌜ Determined ⌝ }
 {
     let room = out.len();

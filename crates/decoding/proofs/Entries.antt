@@ -7,17 +7,17 @@ use native.Mathlib.Omega.{arith}
 use native.Mathlib.Nat.{zero-add}
 use borrow.Author.Tests.{eqb-true}
 use lib.Dec.{eqb}
-use lib.ListN.{length, drop}
-use lib.Seq.{drop-drop, drop-append-le, drop-append-add}
+use lib.ListN.{length, take, drop}
+use lib.Seq.{drop-drop, drop-append-le, drop-append-add, take-append-seam}
 use Rattle.statements.specs.Sets.{pick, isIn, joined}
 use Rattle.statements.specs.Plants.{word, Plant}
 use Rattle.statements.specs.Kept.{stageOf, waitOf, listedMove}
 use Rattle.statements.specs.Books.{two, lostMark, entryOf, stagePart, rowOf, headOf, bookBytes, bookGoals, rowPlace}
-use Rattle.statements.specs.Books.{entryPlace, staged, waitAt, moveAt, stageAt, stageLost, isLost}
+use Rattle.statements.specs.Books.{entryPlace, rowLong, staged, waitAt, moveAt, stageAt, stageLost, isLost}
 use Rattle.sets.proofs.Tests.{and-left, and-right}
 use Rattle.sets.proofs.Numbers.{every-at}
 use Rattle.sets.proofs.Joined.{joined-drop}
-use Rattle.decoding.proofs.Sizes.{opening, row-place, entry-place}
+use Rattle.decoding.proofs.Sizes.{opening, row-place, entry-place, row-long}
 use Rattle.decoding.proofs.Header.{entry-length, stage-length, row-length, read-goals, read-staged}
 
 module _ (p : Plant) (mask : ℕ) (kept : List ℕ) where
@@ -35,6 +35,22 @@ module _ (p : Plant) (mask : ℕ) (kept : List ℕ) where
   row-there x hx =
       rw zero-add at (joined-drop (rowOf p mask kept) (opening (p .settles) + p .goals * 4) (row-length p mask kept)
       (p .states) 0 x hx)
+
+  row-drop : (x : ℕ) → x < p .states
+      → let b = bookBytes p mask kept in
+      drop (rowPlace b x) b ≡ rowOf p mask kept x ++ below x
+  row-drop x hx =
+      let b = bookBytes p mask kept in
+      rw (row-place b x, read-staged p mask kept (omega arith), read-goals, head-drop, row-there x hx)
+
+  -- and is as long as rows are
+  pub row-at : (x : ℕ) → x < p .states
+      → let b = bookBytes p mask kept in
+      take (rowLong b) (drop (rowPlace b x) b) ≡ rowOf p mask kept x
+  row-at x hx =
+      let b = bookBytes p mask kept in
+      rw (row-long b, read-staged p mask kept (omega arith), read-goals, ← row-length p mask kept x, row-drop x hx)
+      (take-append-seam (rowOf p mask kept x) (below x))
 
   -- the entry of state x and goal i stands where it is looked for
   entry-there : (x i : ℕ) → x < p .states → i < p .goals
@@ -71,11 +87,7 @@ module _ (p : Plant) (mask : ℕ) (kept : List ℕ) where
       → let b = bookBytes p mask kept in
       (end : List ℕ) × (drop (rowPlace b x) b ≡ stagePart p mask kept x ++ end)
   unfolding rowOf
-  stage-there x hx =
-      let b = bookBytes p mask kept in (
-        joined (p .goals) 0 (entryOf p mask kept x) ++ below x,
-        rw (row-place b x, read-staged p mask kept (omega arith), read-goals, head-drop, row-there x hx, append-assoc),
-      )
+  stage-there x hx = (joined (p .goals) 0 (entryOf p mask kept x) ++ below x, rw (row-drop x hx, append-assoc))
 
   -- in a book without stages all count as of stage 1
   pub stage-plain : p .settles ≡ false → 0 < p .states → (x : ℕ) → stageAt (bookBytes p mask kept) x ≡ 1

@@ -1,4 +1,4 @@
--- Demands 2 and 3 and requests (vi) to (ix) proved, and the laws of books that lead there. Each file leans on
+-- Demands 2 and 3 and requests (vi) to (x) proved, and the laws of books that lead there. Each file leans on
 -- those above it alone.
 pub mod Plants
 pub mod Rows
@@ -16,3 +16,4 @@ pub mod Demand3
 pub mod InTurn
 pub mod Returning
 pub mod ByIndex
+pub mod Elsewhere

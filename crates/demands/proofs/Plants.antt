@@ -35,6 +35,11 @@ pub from-below : (p : Plant) → PlantOk p → (x u y : ℕ) → isIn y (ends p 
 unfolding ends
 from-below p ok x u y h = arrow-range (p .arrows) (p .states) (p .moves) 0 x u y (ok .arrows-ok) h .2
 
+-- and ends in one
+pub to-below : (p : Plant) → PlantOk p → (x u y : ℕ) → isIn y (ends p x u) ≡ true → y < p .states
+unfolding ends
+to-below p ok x u y h = arrow-range (p .arrows) (p .states) (p .moves) 0 x u y (ok .arrows-ok) h .1
+
 -- what a withdrawal may not leave is allowed
 pub before-allowed : (p : Plant) (b : List ℕ) (x : ℕ) → keptBefore p b x ≡ true → allowed p x ≡ true
 unfolding keptBefore

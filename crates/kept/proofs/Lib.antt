@@ -5,3 +5,5 @@ pub mod Waits
 pub mod Ranks
 pub mod Stages
 pub mod Kept
+pub mod Alike
+pub mod AlikeWaits

@@ -26,7 +26,8 @@ and-with : (a b : Bool) → b ≡ true → (a && b) ≡ a
 and-with true b e = e
 and-with false b e = refl
 
-has-length : (y : ℕ) (ys : List ℕ) → isIn y ys ≡ true → 0 < length ys
+-- a set with a member is not empty
+pub has-length : (y : ℕ) (ys : List ℕ) → isIn y ys ≡ true → 0 < length ys
 has-length y [] h = absurd (isIn-none y h)
 has-length y (z ∷ zs) h = omega arith
 

@@ -6,6 +6,7 @@ pub mod Listed
 pub mod Rows
 pub mod Previewed
 pub mod Traces
+pub mod Elsewhere
 pub mod InTurn
 pub mod Returning
 pub mod Written

@@ -18,8 +18,8 @@ use Rattle.demands.proofs.Demand3.{service-ok, demand-3}
 use Rattle.promises.specs.declared.Answer.{Answer}
 use Rattle.promises.specs.Says.{MakeSays}
 use Rattle.promises.specs.Traces.{Step, Keeps}
-use Rattle.promises.specs.Traces.{nextBook, lastBook, Trace, numbersIn, callOf, callsOf, Begun, bookAfter}
-use Rattle.promises.specs.Traces.{serviceAfter, Demand-3-traced}
+use Rattle.promises.specs.Traces.{nextBook, lastBook, Trace, numbersIn, callOf, callsOf, AnyMake, Begun}
+use Rattle.promises.specs.Traces.{bookAfter, serviceAfter, Demand-3-traced}
 use Rattle.sets.proofs.Over.{over-back}
 use Rattle.promises.proofs.Read.{made-read}
 use Rattle.promises.proofs.Indexed.{made-own, made-plain}
@@ -56,14 +56,19 @@ trace-answers s b [] h = refl
 trace-answers s b (c ∷ cs) h =
     rw (step-answer s b c (h .0), trace-answers s (nextBook b c) cs (h .1), step-book s b c (h .0)) refl
 
--- the first call is said as a plain make, and the first standing book is its book
+-- an accepted make, by an index or without one, is said as a plain make
+pub any-plain : {s o o′ : List ℕ} {mask : ℕ} {r : Answer} → AnyMake s mask o o′ r → r .number ≡ 0 →
+    MakeSays s mask o o′ r
+any-plain says z =
+    elim says [
+      | inl plain ↦ plain
+      | inr by ↦ made-plain (by .1) z
+    ]
+
+-- so is the first call, and the first standing book is its book
 module _ (s : List ℕ) (t : Begun s) where
   made : MakeSays s (t .mask) (t .o) (t .o′) (t .r)
-  made =
-      elim (t .says) [
-        | inl says ↦ says
-        | inr by ↦ made-plain (by .1) (t .is-accepted)
-      ]
+  made = any-plain (t .says) (t .is-accepted)
 
   pub fault-zero : makeFault s (t .mask) (length (t .o)) ≡ 0
   fault-zero = sym (made .writes .number) ∙ t .is-accepted
@@ -71,7 +76,7 @@ module _ (s : List ℕ) (t : Begun s) where
   first-book : take (t .r .length) (t .o′) ≡ madeBook (plantOf s) (t .mask)
   first-book = made-read made (t .is-accepted)
 
-  book-is : bookAfter s t ≡ standing s (madeBook (plantOf s) (t .mask)) (callsOf (t .steps))
+  pub book-is : bookAfter s t ≡ standing s (madeBook (plantOf s) (t .mask)) (callsOf (t .steps))
   unfolding bookAfter
   book-is =
       trace-book s (take (t .r .length) (t .o′)) (t .steps) (t .goes)

@@ -1,3 +1,4 @@
 pub mod Examples
 pub mod Edges
 pub mod Indexed
+pub mod Elsewhere

@@ -8,7 +8,9 @@ pub mod Calls
 pub mod Strategies
 pub mod Demands
 pub mod ByIndex
+pub mod Elsewhere
 pub mod Marked
 pub mod MarkedStages
 pub mod MarkedEdges
 pub mod MarkedIndex
+pub mod MarkedElsewhere
