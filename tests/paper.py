@@ -35,8 +35,8 @@ CELL_WORDS = {facts.KEPT: "w", facts.DROPPED: "DROP", facts.LOST: "lost", facts.
 HEADER = {("state", "name"), ("state", "book")}  # how the table's header begins
 
 # What is withdrawn from an example, so that states are dropped.
-WITHDRAWN = {"gauge-bands": 0x12, "gauge-tension": 0x22, "lockout": 0x1c, "may-miss": 2, "strip": 1, "three-orders": 4,
-             "tight-band": 0x10}
+WITHDRAWN = {"gauge-bands": 0x12, "gauge-tension": 0x22, "lockout": 0x1c, "may-miss": 2, "slitter": 4, "strip": 1,
+             "three-orders": 4, "tight-band": 0x10}
 
 
 @dataclass

@@ -1,4 +1,4 @@
-"""Tests of ./run and of plant.py, picture.py, cost.py and gain.py in tools/. tests/tools.sh runs them."""
+"""Tests of ./run and of plant.py, picture.py, cost.py, gain.py and reach.py in tools/. tests/tools.sh runs them."""
 from __future__ import annotations
 
 import os
@@ -11,7 +11,9 @@ import sys
 import tempfile
 import unittest
 import xml.etree.ElementTree as xml
-from typing import Dict, List, Optional, Set, Tuple
+from collections import Counter
+from dataclasses import dataclass, replace
+from typing import Callable, Dict, List, Optional, Set, Tuple
 
 TOP = os.path.dirname(os.path.dirname(os.path.abspath(__file__)))
 sys.path.insert(0, os.path.join(TOP, "tools"))
@@ -21,10 +23,11 @@ import facts  # noqa: E402
 import gain  # noqa: E402
 import listing  # noqa: E402
 import plant  # noqa: E402
+import reach  # noqa: E402
 
 RUN = os.path.join(TOP, "run")
-PLANT_PY, PICTURE_PY, COST_PY, GAIN_PY = (os.path.join(TOP, "tools", f"{name}.py")
-                                          for name in ("plant", "picture", "cost", "gain"))
+PLANT_PY, PICTURE_PY, COST_PY, GAIN_PY, REACH_PY = (os.path.join(TOP, "tools", f"{name}.py")
+                                                    for name in ("plant", "picture", "cost", "gain", "reach"))
 EXAMPLES = os.path.join(TOP, "examples")
 EXAMPLE_PLANTS = sorted(name for name in os.listdir(EXAMPLES) if name.endswith(".plant"))
 
@@ -285,7 +288,8 @@ class Run(Case):
                 ("lockout", "0x1f 0x1c"): 2, ("may-miss", "0xf"): 3, ("may-miss", "0xf 0x2"): 2,
                 ("three-orders", "0x1f"): 6, ("three-orders", "0x1f 0x10"): 6, ("three-orders", "0x1f 0x04"): 0,
                 ("tight-band", "0x1f"): 7, ("tight-band", "0x1f 0x08"): 7, ("tight-band", "0x1f 0x10"): 6,
-                ("gauge-tension", "0x3f"): 26, ("gauge-tension", "0x3f 0x22"): 17, ("gauge-tension", "0x3f 0x10"): 0}
+                ("gauge-tension", "0x3f"): 26, ("gauge-tension", "0x3f 0x22"): 17, ("gauge-tension", "0x3f 0x10"): 0,
+                ("slitter", "0x3f"): 5, ("slitter", "0x1f"): 5}
         for (name, masks), count in kept.items():
             code, out, error = self.call(RUN, self.example(name), *masks.split())
             self.assertEqual((code, error), (0, ""))
@@ -335,6 +339,7 @@ class Run(Case):
             self.assertFalse(os.path.exists(self.path("out.html")))
             self.fails(status, words, RUN, "--cost", strip, "7", "1", env=env)
             self.fails(status, words, RUN, "--gain", strip, "7", "1", "1", env=env)
+            self.fails(status, words, RUN, "--reach", "0", strip, "7", env=env)
         self.fails(3, "PLANBOOK_BIN names no program", RUN, strip, "7", env={"PLANBOOK_BIN": self.path("none")})
 
     def test_help_and_options(self) -> None:
@@ -343,6 +348,7 @@ class Run(Case):
         self.assertIn("--picture OUT.html", out)
         self.assertIn("--cost PLANT", out)
         self.assertIn("--gain PLANT", out)
+        self.assertIn("--reach STATE PLANT MASK", out)
         self.fails(2, "unknown option --colour", RUN, "--colour")
         self.fails(2, "there is no such file", RUN, "", "7")
 
@@ -523,7 +529,7 @@ class Machine(Case):
     def questions(self) -> List[List[str]]:
         strip = self.example("strip")
         return [[RUN], [RUN, "--help"], [RUN, "--picture", "-", strip, "7"], [RUN, "--cost", strip, "7", "1"],
-                [RUN, "--gain", strip, "7", "1", "1"]]
+                [RUN, "--gain", strip, "7", "1", "1"], [RUN, "--reach", "0", strip, "7"]]
 
     def long_plant(self) -> str:
         return self.write("long.bin", plant.to_bytes(LONG))
@@ -1247,13 +1253,286 @@ class Gain(Question):
         self.assertEqual(shares, {"none", "some", "all"})
 
 
+# What the row of thick strip in the mill can depend on, when no strip goes on to the slitter.
+SLITTER_REACH = """in service: move 0 hold; move 1 screws up; move 2 screws down; move 3 close the knives; \
+move 4 back to the mill
+the row of state 2 (mill, thick) can depend on 3 of 6 states
+3 others can be remodelled without a second look at it
+0  mill, thin
+1  mill, on aim
+2  mill, thick
+"""
+
+
+def strip_reach(state: int, moves: str, others: str, states: List[int]) -> str:
+    """What the row of a state of P can depend on."""
+    return f"in service: {moves}\nthe row of state {state} can depend on {len(states)} of 4 states\n" \
+           f"{others} can be remodelled without a second look at it\n" + "".join(f"{other}\n" for other in states)
+
+
+def closed(read: plant.Plant, mask: int) -> List[List[int]]:
+    """For each state those that it can come to, by whole sets at once: each state's set takes in the set of every state
+    that can be gone through, in turn (Warshall)."""
+    sets = [1 << state for state in range(read.states)]
+    for start, move, end in read.arrows:
+        sets[start] |= (mask >> move & 1) << end
+    for middle in range(read.states):
+        for state in range(read.states):
+            sets[state] |= sets[middle] * (sets[state] >> middle & 1)
+    return [[end for end in range(read.states) if found >> end & 1] for found in sets]
+
+
+class Reach(Case):
+    """What ./run --reach says. The lists expected are read off the plants by hand, or found by whole sets."""
+
+    def says(self, expected: str, *words: str, env: Optional[Dict[str, str]] = None) -> None:
+        self.assertEqual(self.call(RUN, "--reach", *words, env=env), (0, expected, ""))
+
+    def refuses(self, status: int, error: str, *words: str, env: Optional[Dict[str, str]] = None) -> None:
+        self.fails(status, error, RUN, "--reach", *words, env=env)
+
+    def test_strip_plant(self) -> None:
+        strip, every = self.example("strip"), "move 0; move 1; move 2"
+        for state in range(3):
+            self.says(strip_reach(state, every, "no others", [0, 1, 2, 3]), str(state), strip, "7")
+        self.says(strip_reach(3, every, "3 others", [3]), "3", strip, "7")
+        self.says(strip_reach(1, "move 0; move 2", "1 other", [0, 1, 2]), "1", strip, "0x5")
+        self.says(strip_reach(0, "move 1", "no others", [0, 1, 2, 3]), "0", strip, "2")
+        self.says(strip_reach(2, "move 1", "3 others", [2]), "2", strip, "2")
+        self.says(strip_reach(2, "no move", "3 others", [2]), "002", strip, "0")
+
+    def test_the_guide_has_the_answer_about_the_slitter(self) -> None:
+        with open(os.path.join(TOP, "docs", "USING.md"), encoding="utf-8") as file:
+            guide = file.read()
+        self.says(SLITTER_REACH, "2", self.example("slitter"), "0x1f")
+        self.says(SLITTER_REACH, "mill, thick", self.example("slitter"), "0x1f")
+        shown = "$ ./run --reach 2 examples/slitter.plant 0x1f\n" + SLITTER_REACH
+        self.assertIn("".join(f"    {line}\n" for line in shown.splitlines()), guide)
+
+    def test_the_slitter_end_is_remodelled(self) -> None:
+        # Knives that may tear the strip: a burr is then taken off in the mill.
+        with open(self.example("slitter"), encoding="utf-8") as file:
+            before = file.read()
+        after = before.replace("arrow 4 3 -> 3 ", "arrow 4 3 -> 3 5 ")
+        self.assertNotEqual(before, after)
+        for mask, count in (("0x1f", "5 moves"), ("0x3f", "6 moves")):
+            mill = f"5 of 6 kept, {count} in service\n0 0 1 1\n1 0 0 0\n2 0 1 2\n3 0 0 0\n"
+            for text, burred in ((before, "4 0 1 3\n"), (after, "4 0 2 4\n")):
+                source = self.write("a.plant", text.encode())
+                self.assertEqual(self.call(RUN, source, mask), (0, mill + burred + "5 lost\n", ""))
+        read = plant.from_text("t", before.encode())
+        for mask, states in ((0x1f, [3, 4]), (0x3f, [0, 1, 2, 3, 4])):
+            self.assertEqual([state for state in range(6) if 4 in reach.reach(read, state, mask)], states)
+
+    def test_states_that_are_not_allowed_are_gone_through(self) -> None:
+        lines = ["plant states 4 moves 1 goals 1 settle", "state 0 allowed", "state 1 not-allowed", "state 2 allowed",
+                 "state 3 allowed settled goal 0", "arrow 0 0 -> 1", "arrow 1 0 -> 2", "arrow 3 0 -> 3"]
+        self.says("in service: move 0\nthe row of state 0 can depend on 3 of 4 states\n"
+                  "1 other can be remodelled without a second look at it\n0\n1\n2\n",
+                  "0", self.write("a.plant", "\n".join(lines).encode()), "1")
+
+    def test_bytes_and_standard_input(self) -> None:
+        data = plant.to_bytes(plant.read_plant(self.example("slitter")))
+        source, text = self.write("slitter.bin", data), self.example("slitter")
+        bare = "in service: move 0; move 1; move 2; move 3; move 4\nthe row of state 2 can depend on 3 of 6 states\n" \
+               "3 others can be remodelled without a second look at it\n0\n1\n2\n"
+        self.says(bare, "2", source, "0x1f")
+        self.refuses(2, "no state has the name 'mill, thick': give a name from the plant's text, or a number from 0 to "
+                     "5", "mill, thick", source, "0x1f")
+        for path, expected in ((source, bare), (text, SLITTER_REACH)):
+            for tool in (f"{RUN} --reach", REACH_PY):
+                self.assertEqual(self.call("bash", "-c", f'{tool} 2 - 0x1f <"$0"', path), (0, expected, ""))
+
+    def test_names_and_numbers(self) -> None:
+        lines = ["plant states 11 moves 1 goals 1", 'state 0 allowed "7"', 'state 7 allowed "½ mm, on aim"',
+                 'state 9 allowed " thick "', 'state 10 allowed "thick"', "arrow 7 0 -> 10"]
+        lines += [f"state {state} allowed" for state in (1, 2, 3, 4, 5, 6, 8)]
+        source = self.write("a.plant", "\n".join(lines).encode())
+        expected = "in service: move 0\nthe row of state 7 (½ mm, on aim) can depend on 2 of 11 states\n" \
+                   "9 others can be remodelled without a second look at it\n 7  ½ mm, on aim\n10  thick\n"
+        for env in ({}, Machine.ASCII):
+            for word in ("7", "07", "½ mm, on aim", " ½ mm, on aim"):
+                self.says(expected, word, source, "1", env=env)
+        self.refuses(2, "states 9 and 10 have the name 'thick': give the number", "thick", source, "1")
+        for word in ("", "Thick", "-1", "0x7", "7.0", "½ mm", "\u0667", "on\naim", "\udcff"):
+            self.refuses(2, "no state has the name '", word, source, "1")
+        for word in ("11", "0011", "65536", "4294967303", "9" * 5000):
+            self.refuses(2, "the plant's states are 0 to 10", word, source, "1")
+
+    def test_bad_words_masks_and_files(self) -> None:
+        strip = self.example("strip")
+        for words in ([], ["0"], [strip, "7"], ["0", strip], ["0", strip, "7", "4"]):
+            self.refuses(2, "--reach needs a state, a plant and one mask, the moves in service; ./run --help", *words)
+        self.fails(2, "give one mask, the moves in service, and not 2", REACH_PY, "0", strip, "7", "4")
+        for mask in ("", "x", "-1", "4294967296"):
+            self.refuses(2, f"'{mask}' is no mask", "0", strip, mask)
+        for mask in ("8", "0xffffffff"):
+            self.refuses(1, "refused 6: a mask names a move", "0", strip, mask)
+        self.refuses(2, "3: there is no such file", strip, "3", "7")
+        self.refuses(2, "is not a file", "0", self.folder, "7")
+        self.refuses(2, "bad.plant:3: ", "0", self.write("bad.plant", b"\n\nx\n"), "7")
+        data = plant.to_bytes(plant.read_plant(strip))
+        for number, spoilt in ((1, data[:-4]), (2, changed(data, 8, 8)), (3, changed(data, 12, 4))):
+            self.refuses(2, f"refuses this with {number}", "0", self.write("a.bin", spoilt), "7")
+
+    def test_no_python_and_no_planner(self) -> None:
+        source = self.write("a.bin", plant.to_bytes(plant.read_plant(self.example("strip"))))
+        few, none = {"PATH": self.few_tools()}, {"PLANBOOK_BIN": self.path("none")}
+        self.fails(3, "python3 is needed for the reach of a state, ", shutil.which("bash") or "", RUN, "--reach", "0",
+                   source, "7", env=few)
+        self.refuses(3, "PLANBOOK_BIN names no program", "0", source, "7", env=none)
+        self.fails(3, "planbook is not there", REACH_PY, "0", source, "7", env=none)
+
+    def test_the_most_states(self) -> None:
+        chain = plant.Plant(1024, 1, 1, [3] * 1024, [(state, 0, state + 1) for state in range(1023)])
+        source = self.write("a.bin", plant.to_bytes(chain))
+        for state, others in ((0, "no others"), (1, "1 other"), (1023, "1023 others")):
+            self.says(f"in service: move 0\nthe row of state {state} can depend on {1024 - state} of 1024 states\n"
+                      f"{others} can be remodelled without a second look at it\n" +
+                      "".join(f"{other:>4}\n" for other in range(state, 1024)), str(state), source, "1")
+
+    def test_lists_are_closed_and_no_longer(self) -> None:
+        sizes = Counter()
+        for seed in range(200):
+            for read in (sketch(random.Random(seed), seed % 2 == 1), random_plant(seed)):
+                if read.states > 100:
+                    continue
+                mask = random.Random(seed).randrange(1 << read.moves)
+                for state, expected in enumerate(closed(read, mask)):
+                    self.assertEqual(reach.reach(read, state, mask), expected, (seed, state))
+                    sizes[min(len(expected), 3), len(expected) == read.states] += 1
+        self.assertTrue(all(sizes[key] > 50 for key in ((1, False), (2, False), (3, False), (3, True))), sizes)
+
+
+def sketch(pick: random.Random, settles: bool) -> plant.Plant:
+    """A plant of two ends, of which one leads to the other less often than back. Its states have any numbers."""
+    states, moves, goals = pick.choice([1, 4, 6, 9, 12, 24]), pick.choice([1, 2, 3, 4, 32]), pick.choice([1, 1, 2, 8])
+    made = plant.Plant(states, moves, goals, [new_label(pick, goals, settles) for _ in range(states)], [], settles)
+    numbers = pick.sample(range(states), states)
+    half = numbers[:states // 2]
+    made.arrows = sorted({arrow for state in numbers for arrow in
+                          new_arrows(pick, made, state, half if state in half and pick.random() < 0.97 else numbers)})
+    return made
+
+
+def new_label(pick: random.Random, goals: int, settles: bool) -> int:
+    label = int(pick.random() < 0.93) + sum(2 << goal for goal in range(goals) if pick.random() < 0.7)
+    return label | (plant.SETTLED if settles and pick.random() < 0.75 else 0)
+
+
+def new_arrows(pick: random.Random, read: plant.Plant, state: int, ends: List[int]) -> Set[plant.Arrow]:
+    """A few arrows from a state to some of these, mostly one by each move."""
+    moves = [pick.randrange(min(read.moves, 4)) for _ in range(2)] + [pick.randrange(read.moves)]
+    return {(state, move, pick.choice(ends)) for move in moves for _ in range(pick.choice([1, 1, 1, 2]))}
+
+
+@dataclass
+class Pair:
+    """Two plants made with one mask, a state, and the states whose labels and arrows in service are the same."""
+
+    one: plant.Plant
+    other: plant.Plant
+    mask: int
+    state: int
+    listed: List[int]
+
+
+def pair_of(seed: int, lists: Callable[[plant.Plant, int, int], List[int]]) -> Pair:
+    """A plant, and the same remodelled wherever the list for a state allows: new labels and arrows at states that are
+    not listed, and new arrows of moves out of service at all. Odd seeds have plants that must settle."""
+    pick = random.Random(seed)
+    one = sketch(pick, seed % 2 == 1)
+    mask = pick.randrange(1 << one.moves) | pick.randrange(1 << one.moves)
+    state = pick.randrange(one.states)
+    listed = lists(one, state, mask)
+    stays = {arrow for arrow in one.arrows if arrow[0] in listed and mask >> arrow[1] & 1}
+    new = {arrow for start in range(one.states) for arrow in new_arrows(pick, one, start, list(range(one.states)))
+           if start not in listed or not mask >> arrow[1] & 1}
+    labels = [label if at in listed else new_label(pick, one.goals, one.settles) for at, label in enumerate(one.labels)]
+    return Pair(one, replace(one, labels=labels, arrows=sorted(stays | new)), mask, state, listed)
+
+
+def rows_of(read: plant.Plant, mask: int) -> List[object]:
+    """Every state's row: nothing if it is lost, or its stage and its entries."""
+    made = listing.book(read, [mask])
+    found = facts.stages(read, made, listing.ends_of(read))
+    return [(found[state], made.rows[state]) if state in made.rows else None for state in range(read.states)]
+
+
+class Elsewhere(unittest.TestCase):
+    """Request (x): plants that agree on what a state can come to have the same row for it."""
+
+    def rows_agree(self, seed: int, lists: Callable[[plant.Plant, int, int], List[int]], seen: Counter) -> bool:
+        """Whether the rows of the state and of all that are listed for it are the same in both plants of a pair."""
+        pair = pair_of(seed, lists)
+        one, other = (rows_of(read, pair.mask) for read in (pair.one, pair.other))
+        row, unlisted = one[pair.state], set(range(pair.one.states)) - set(pair.listed)
+        out = [{arrow for arrow in read.arrows if arrow[0] in pair.listed and not pair.mask >> arrow[1] & 1}
+               for read in (pair.one, pair.other)]
+        seen.update(pairs=1, kept=row is not None, lost=row is None, several=len(pair.listed) > 1,
+                    later=isinstance(row, tuple) and row[0] > 1, some=bool(unlisted), out=out[0] != out[1],
+                    counts=one.count(None) != other.count(None), rows=any(one[at] != other[at] for at in unlisted),
+                    forbidden=any(not pair.one.allowed(at) for at in pair.listed if at != pair.state))
+        return all(one[at] == other[at] for at in {pair.state, *pair.listed})
+
+    def test_rows_that_come_to_the_same_states_are_the_same(self) -> None:
+        for sort in range(2):
+            seen: Counter = Counter()
+            for seed in range(sort, 800, 2):
+                self.assertTrue(self.rows_agree(seed, reach.reach, seen), pair_of(seed, reach.reach))
+            few = {name for name, count in seen.items() if count < (15 * sort if name == "later" else 60)}
+            self.assertEqual(few, set(), seen)
+
+    def test_lists_that_are_too_short_are_found_out(self) -> None:
+        def itself_left_out(read: plant.Plant, state: int, mask: int) -> List[int]:
+            return [other for other in reach.reach(read, state, mask) if other != state]
+
+        def itself_alone(read: plant.Plant, state: int, mask: int) -> List[int]:
+            return [state]
+
+        def one_step(read: plant.Plant, state: int, mask: int) -> List[int]:
+            return sorted({state, *(end for start, move, end in read.arrows if start == state and mask >> move & 1)})
+
+        def last_step_left_out(read: plant.Plant, state: int, mask: int) -> List[int]:
+            found = [[state], one_step(read, state, mask)]
+            while len(found[-1]) > len(found[-2]):
+                found.append(sorted({end for other in found[-1] for end in one_step(read, other, mask)}))
+            return found[max(0, len(found) - 3)]
+
+        def lowest_move_alone(read: plant.Plant, state: int, mask: int) -> List[int]:
+            return reach.reach(read, state, mask & -mask)
+
+        def backward(read: plant.Plant, state: int, mask: int) -> List[int]:
+            arrows = [(end, move, start) for start, move, end in read.arrows]
+            return reach.reach(replace(read, arrows=arrows), state, mask)
+
+        for lists in (itself_left_out, itself_alone, one_step, last_step_left_out, lowest_move_alone, backward):
+            for sort in range(2):
+                found = any(not self.rows_agree(seed, lists, Counter()) for seed in range(sort, 800, 2))
+                self.assertTrue(found, (lists.__name__, sort))
+
+    def test_what_lies_behind_states_that_are_not_allowed_makes_no_difference(self) -> None:
+        # It is listed all the same: request (x) speaks of all that can be reached.
+        def through_allowed_states(read: plant.Plant, state: int, mask: int) -> List[int]:
+            arrows = [arrow for arrow in read.arrows if read.allowed(arrow[0])]
+            return reach.reach(replace(read, arrows=arrows), state, mask)
+
+        shorter = 0
+        for seed in range(400):
+            pair = pair_of(seed, reach.reach)
+            if through_allowed_states(pair.one, pair.state, pair.mask) != pair.listed:
+                self.assertTrue(self.rows_agree(seed, through_allowed_states, Counter()), seed)
+                shorter += 1
+        self.assertGreater(shorter, 20)
+
+
 class Commands(Case):
-    """picture.py, cost.py and gain.py by themselves, without ./run."""
+    """picture.py, cost.py, gain.py and reach.py by themselves, without ./run."""
 
     def test_help_and_usage(self) -> None:
         for path, call in ((PICTURE_PY, "picture.py OUT.html PLANT MASK [MASK...]"),
                            (COST_PY, "cost.py PLANT MASK [MASK...] MASK"),
-                           (GAIN_PY, "gain.py PLANT MASK [MASK...] MASK")):
+                           (GAIN_PY, "gain.py PLANT MASK [MASK...] MASK"), (REACH_PY, "reach.py STATE PLANT MASK")):
             for word in ("-h", "--help"):
                 code, out, error = self.call(path, word)
                 self.assertEqual((code, error, out.splitlines()[2]), (0, "", "    " + call))

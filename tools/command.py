@@ -25,9 +25,14 @@ def run_report(text: Optional[str], report: Callable[[Plant, List[int]], List[st
     """Prints the lines of a report on a plant and two or more masks, and gives the exit status."""
     def work(source: str, *last: str) -> None:
         masks = masks_from(last)
-        say("".join(f"{line}\n" for line in report(read_plant(source), masks)))
+        say_lines(report(read_plant(source), masks))
 
     return run_command(text, 3, work, words)
+
+
+def say_lines(lines: List[str]) -> None:
+    """The lines of a report on standard output."""
+    say("".join(f"{line}\n" for line in lines))
 
 
 def run_command(text: Optional[str], least: int, work: Callable[..., None], words: List[str]) -> int:

@@ -60,6 +60,7 @@ keeps! {
     returns_come_to_a_making
     calls_by_index_come_to_those_without
     lists_of_calls_come_to_a_making
+    rows_come_from_what_is_reached
     stages_come_to_plain_books
     stages_never_fall
     sets_are_those_of_the_rule

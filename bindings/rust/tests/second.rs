@@ -141,6 +141,7 @@ fn promises() {
     promises::returns_come_to_a_making(&Fast);
     promises::calls_by_index_come_to_those_without(&Fast);
     promises::lists_of_calls_come_to_a_making(&Fast);
+    promises::rows_come_from_what_is_reached(&Fast);
     promises::stages_come_to_plain_books(&Fast);
     promises::stages_never_fall(&Fast);
     promises::sets_are_those_of_the_rule(&Fast);

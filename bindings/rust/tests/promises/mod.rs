@@ -1,8 +1,8 @@
-//! What requests (i), (ii), (iv) to (ix) of document 02 promise of the books that make, withdraw or return wrote
+//! What requests (i), (ii), (iv) to (x) of document 02 promise of the books that make, withdraw or return wrote
 //! for a plant: which goal is arrived at and which the good moves are, that following the book meets all goals, by its
 //! own moves or by any pick from the good ones, what a drop list says of the books before and after, that previews come
 //! true, what a list of withdrawals comes to, that returns undo withdrawals, what an index is and that calls by it come
-//! to those without, and what any list of calls comes to.
+//! to those without, what any list of calls comes to, and which part of the plant a row hangs on.
 //! Run on any planner; nothing is compared with another.
 
 use planbook::calls::{mask_bytes, Calls};
@@ -455,6 +455,84 @@ pub fn lists_of_calls_come_to_a_making(planner: &dyn Calls) {
         planner.name()
     );
     assert!(accepted > 10_000 && bad_masks > 300 && short > 500 && misfits > 500 && equal > 200 && differ > 500);
+}
+
+/// The states that a state can come to by moves in service, itself included.
+fn reached(model: &Model, mask: u32, state: usize) -> Vec<bool> {
+    let mut found = vec![false; model.labels.len()];
+    found[state] = true;
+    // A way that does not come back to a state has fewer arrows than there are states.
+    for _ in 0..found.len() {
+        for &[from, action, to] in &model.arrows {
+            found[usize::from(to)] |= found[usize::from(from)] && in_mask(mask, action);
+        }
+    }
+    found
+}
+
+/// A label for a state, and some arrows from there to states below `ends`.
+fn drawn(model: &Model, state: usize, ends: usize, random: &mut Random) -> (u16, Vec<[u16; 3]>) {
+    let bits = (1..=model.goals).chain(model.settles.then_some(9));
+    let label = bits.map(|bit| u16::from(!random.once_in(4)) << bit).sum::<u16>() + u16::from(!random.once_in(16));
+    let mut arrow = || [state, random.below(model.moves.into()), random.below(ends)].map(|number| number as u16);
+    (label, [(); 3].map(|()| arrow()).to_vec())
+}
+
+/// A plant of two ends, of which one seldom leads to the other, a mask and a state; and the same plant remodelled
+/// wherever the state does not come to: with new labels and arrows there, and new arrows of moves out of service.
+fn remodelled(random: &mut Random) -> ([Model; 2], u32, usize) {
+    let states = if random.once_in(4) { random.from_to(1, 64) } else { random.from_to(2, 12) };
+    let (moves, goals) = ([1, 2, 3, 4, 32][random.below(5)], [1, 1, 2, 8][random.below(4)]);
+    let mut one = Model { moves, goals, settles: random.once_in(2), labels: vec![], arrows: vec![] };
+    for state in 0..states {
+        let ends = if state < states / 2 && !random.once_in(40) { states / 2 } else { states };
+        let (label, arrows) = drawn(&one, state, ends, random);
+        one.labels.push(label);
+        one.arrows.extend(arrows);
+    }
+    let one = one.shuffled(random);
+    let (mask, state) = ((random.bits() | random.bits()) as u32 & one.every_move(), random.below(states));
+    let same = reached(&one, mask, state);
+    let stays = |&[from, action, _]: &[u16; 3]| same[usize::from(from)] && in_mask(mask, action);
+    let mut other = one.clone();
+    other.arrows.retain(stays);
+    for (at, &same) in same.iter().enumerate() {
+        let (label, arrows) = drawn(&one, at, states, random);
+        other.labels[at] = if same { one.labels[at] } else { label };
+        other.arrows.extend(arrows.into_iter().filter(|arrow| !stays(arrow)));
+    }
+    ([one, other], mask, state)
+}
+
+/// Two plants with as many states, moves and goals, of one sort and made with one mask, that agree on the labels and
+/// arrows in service of all that a state can come to, have the same row for it, and for all that it can come to.
+pub fn rows_come_from_what_is_reached(planner: &dyn Calls) {
+    // Of each sort, how many pairs there are, in how many of them the state is kept, in how many it has a stage after the
+    // first, and in how many the two books do not keep as many states.
+    let mut seen = [[0; 4]; 2];
+    for seed in 0..6_000 {
+        let (models, mask, state) = remodelled(&mut Random::new(seed));
+        let books = models.each_ref().map(|model| {
+            let index = index_of(planner, model);
+            let by_index = |out: &mut [u8], _: &mut [u8]| planner.make_indexed(&model.bytes(), &index, mask, out);
+            [make(planner, model, mask), written_by(model, by_index).0]
+        });
+        for at in (0..).zip(reached(&models[0], mask, state)).filter(|(_, same)| *same).map(|(at, _)| at) {
+            let row = |book: &Vec<u8>| {
+                let part = planner.row(book, at);
+                book[part.start as usize..][..part.length as usize].to_vec()
+            };
+            let rows = books.each_ref().map(|ways| ways.each_ref().map(row)).concat();
+            assert!(rows.iter().all(|other| *other == rows[0]), "state {at} by state {state}, seed {seed}: {rows:?}");
+        }
+        let [one, other] = [&books[0][0], &books[1][0]].map(|book| read(book));
+        let kept = [one, other].map(|rows| (0..rows.states).filter(|&state| rows.is_kept(state)).count());
+        let later = one.has_stages && one.is_kept(state) && one.stage(state) > 1;
+        let counts = [true, one.is_kept(state), later, kept[0] != kept[1]];
+        seen[usize::from(one.has_stages)].iter_mut().zip(counts).for_each(|(many, one)| *many += u32::from(one));
+    }
+    println!("{}: pairs of plants, rows kept, after stage 1, with other K, of each sort: {seen:?}", planner.name());
+    assert!(seen.iter().all(|&[pairs, kept, _, other]| kept > pairs / 5 && other > pairs / 5) && seen[1][2] > 100);
 }
 
 /// The plant of one stage, which need not settle: settled states, and those that leave for the states given, which stay
