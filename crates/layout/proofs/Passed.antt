@@ -5,6 +5,7 @@ use mathlib.Core.Logic.{⊎-elim}
 use mathlib.Core.Bool.{Bool, true, false, _&&_, and-assoc}
 use mathlib.Core.List.{List, [], _∷_, _++_, append-assoc, append-nil}
 use Prim.Native.Nat.{ℕ, _+_, _-_, _*_, _≤_, _<_}
+use native.Mathlib.Nat.{add-assoc}
 use native.Mathlib.Numerals.{add-one}
 use native.Mathlib.Omega.{arith}
 use lib.Dec.{ltb, leb}
@@ -16,6 +17,7 @@ use Rattle.sets.proofs.Tests.{decided, and-iff}
 use Rattle.format.specs.declared.arrows.Arrow.{Arrow as ReadArrow}
 use Rattle.format.specs.Arrows.{arrowIn, arrowsLeft}
 use Rattle.format.specs.Checks.{arrowsFine, leastAfter}
+use Rattle.format.proofs.Words.{word-here}
 use Rattle.format.proofs.Header.{PlantHead, plant-states, plant-moves}
 use Rattle.format.proofs.Stored.{asArrow, left-more, left-none, ends-nil}
 use Rattle.layout.specs.Layout.{groupStates, groupMoves, groupEnds, groupSizes, total, starts, numbered}
@@ -132,6 +134,18 @@ module _ (states moves least : ℕ) (a : ReadArrow) where
         ∙ ap (λ (b : Bool). b && arrowsOk states moves (Rank + 1) rest) passes
         ∙ sym (ap (λ (m : ℕ). arrowsOk states moves m rest) (on-next passes))
 
+-- arrow k from its six bytes, two for each of its numbers, past the place of the first arrow
+pub arrow-bytes : (s : List ℕ) (first k : ℕ) {x u y : ℕ} → first ≡ 16 + 2 * word 0 s
+    → (let at = first + 6 * k in
+    x ≡ getD s at 0 + 256 * getD s (at + 1) 0
+    → u ≡ getD s (at + 2) 0 + 256 * getD s (at + 3) 0
+    → y ≡ getD s (at + 4) 0 + 256 * getD s (at + 5) 0
+    → record { from = x; action = u; to = y } ≡ arrowIn s k)
+unfolding arrowIn
+arrow-bytes s first k e ex eu ey =
+    let at = 16 + 2 * word 0 s + 6 * k in
+    rw (ex, eu, ey, e, word-here s at, word-here s (at + 2), word-here s (at + 4)) (simp add-assoc)
+
 -- arrow k is read, and checked
 pub record Taken (s : List ℕ) (k least : ℕ) (b : ReadArrow) (next : ℕ) : Type 0 where
   pub head : PlantHead s
@@ -169,6 +183,10 @@ module _ {s : List ℕ} {mask k least g n : ℕ} {first states moves begins ends
           higher = good .higher;
           past = t .past;
         }
+
+    -- its move is the number of a bit
+    pub pass-move : b .action < 32
+    pass-move = omega (arith, comes .move-below, comes .moves-most)
 
     -- no later group has an end yet, and its own has one
     past-next : (x u : ℕ) → next ≤ key x u → endsIn (t .arrows ++ (asArrow b ∷ [])) x u ≡ []

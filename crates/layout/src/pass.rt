@@ -2,10 +2,9 @@
 // written for every arrow at the place of the next group, and stays where that many groups are counted.
 use crate::Loaded;
 use format::arrows::Arrow;
-use format::arrows::arrow_at;
 use format::plant::least_after;
-use format::word::bit_at;
 use format::word::number;
+use format::word::pair;
 ghost use mathlib.Core.Path.{_≡_};
 ghost use mathlib.Core.Bool.{true, false};
 ghost use Prim.Native.Nat.{_+_, _*_, _≤_, _<_};
@@ -13,17 +12,33 @@ ghost use lib.Dec.{leb};
 ghost use lib.ListN.{length, getD, set, take, replicate};
 ghost use Rattle.statements.specs.Sets.{pick, bit};
 ghost use Rattle.statements.specs.Plants.{word, plantOf, headOk};
+ghost use Rattle.format.specs.Arrows.{arrowIn};
 ghost use Rattle.format.specs.Checks.{arrowsFine};
 ghost use Rattle.layout.specs.Passing.{Room, LaidIn};
 
+// Arrow k of a plant that has it. The place where the first arrow stands is worked out before.
+fn arrow_from(plant: &[u8], first: usize, k: u16) -> Arrow
+    requires place { ⌜ first ≡ 16 + 2 * word 0 (now plant) ⌝ }
+    requires long { ⌜ first + 6 * k + 6 ≤ length (now plant) ⌝ }
+    ensures { λ r. ⌜ r ≡ arrowIn (now (plant .entry)) k ⌝ }
+{
+    let at = first + 6 * (k as usize);
+    let from = pair(plant[at], plant[at + 1]);
+    let action = pair(plant[at + 2], plant[at + 3]);
+    let to = pair(plant[at + 4], plant[at + 5]);
+    Arrow {
+        from: from,
+        action: action,
+        to: to,
+    }
+}
+
 // 1 for a move in service, and otherwise 0.
 fn serves(mask: u32, action: u16) -> u16
+    requires { ⌜ action < 32 ⌝ }
     ensures { λ r. ⌜ r ≡ pick (bit action mask) 1 0 ⌝ }
 {
-    if bit_at(mask, action as u32) {
-        return 1;
-    }
-    0
+    ((mask >> (action as u32)) % 2) as u16
 }
 
 // The number given where no arrow of the state and the move came before: all ranks so far are below `least`. Else 0.
@@ -91,12 +106,13 @@ pub(crate) fn lay(
     let count = number(plant, 3);
     let limit = number(plant, 0);
     let actions = number(plant, 1);
+    let first = 16 + 2 * (limit as usize);
     let mut k: u16 = 0;
     let mut least: u64 = 0;
     let mut groups: u16 = 0;
     let mut arrows: u16 = 0;
     while k < count {
-        let arrow = arrow_at(plant, k);
+        let arrow = arrow_from(plant, first, k);
         let next = least_after(arrow, least, limit, actions);
         if next == 0 {
             return Loaded {

@@ -9,20 +9,20 @@ use Rattle.statements.specs.Plants.{word}
 use Rattle.format.specs.Checks.{leastAfter}
 use Rattle.format.proofs.Header.{PlantHead, plant-head, plant-states, plant-moves}
 use Rattle.layout.specs.Passing.{Room}
-use Rattle.layout.proofs.Passed.{Taken, pass-refused, pass-fine, pass-end}
+use Rattle.layout.proofs.Passed.{Taken, pass-refused, pass-move, pass-fine, pass-end}
 use Rattle.layout.proofs.Storing.{PassedIn, start-in, group-place, end-place, state-place, small-in, count-in}
 use Rattle.layout.proofs.Storing.{again-in, same-in, room-same}
 use Rattle.layout.proofs.pass.lay.Statement.{statement}
 use Rattle.layout.proofs.pass.lay.Tie as tie
 
 abbrev Inv-loop : tie.InvT-loop
-Inv-loop plant mask table₀ states₀ room count limit actions k₀ least₀ groups₀ arrows₀
+Inv-loop plant mask table₀ states₀ room count limit actions first k₀ least₀ groups₀ arrows₀
     table states k least groups arrows =
     (k ≤ count) × PlantHead plant × (length table ≡ length table₀) × (length states ≡ length states₀)
     × Room (word 3 plant) room table states × PassedIn plant mask k least groups arrows room table states
 
 abbrev μ-loop : tie.MeasureT-loop
-μ-loop plant mask table₀ states₀ room count limit actions k₀ least₀ groups₀ arrows₀
+μ-loop plant mask table₀ states₀ room count limit actions first k₀ least₀ groups₀ arrows₀
     table states k least groups arrows =
     count - k
 
@@ -30,16 +30,16 @@ abbrev μ-loop : tie.MeasureT-loop
 taken : (c : tie.After-least-after Inv-loop μ-loop)
     → let l = c .before .before .before in
     let a = l .before .before .before .before .before .before .before .args in
-    Taken (a .plant .now) (l .loop .k) (l .loop .least) (c .before .arrow-at .result) (c .least-after .result)
+    Taken (a .plant .now) (l .loop .k) (l .loop .least) (c .before .arrow-from .result) (c .least-after .result)
 taken c =
     let l = c .before .before .before in
     record {
       head = l .loop .inv .1;
       more = rw (l .before .before .before .number .ensures) at (c .before .before .loop-test .taken);
-      read = c .before .arrow-at .ensures;
+      read = c .before .arrow-from .ensures;
       next-is =
           c .least-after .ensures
-          ∙ ap₂ (λ (i j : ℕ). leastAfter i j (l .loop .least) (c .before .arrow-at .result))
+          ∙ ap₂ (λ (i j : ℕ). leastAfter i j (l .loop .least) (c .before .arrow-from .result))
           (l .before .before .number2 .ensures ∙ sym (plant-states _))
           (l .before .number3 .ensures ∙ sym (plant-moves _));
     }
@@ -77,14 +77,23 @@ number-requires-2 c κs = search needs
 number-requires-3 : tie.Need-number-requires-3 Inv-loop μ-loop
 number-requires-3 c κs = search needs
 
+cast-first : tie.Need-cast-first Inv-loop μ-loop
+cast-first c = search needs
+
+mul-first : tie.Need-mul-first Inv-loop μ-loop
+mul-first c = search needs
+
+add-first : tie.Need-add-first Inv-loop μ-loop
+add-first c = search needs
+
 loop-holds : tie.Need-loop-holds Inv-loop μ-loop
 loop-holds c =
     let s = c .before .before .before .before .before .before in
     let head = plant-head _ (s .pre .0) in
     (omega arith, head, refl, refl, s .pre .1 .0, start-in _ _ _ _ _ head (s .pre .1 .1))
 
-arrow-at-requires : tie.Need-arrow-at-requires Inv-loop μ-loop
-arrow-at-requires c κs = search needs
+arrow-from-requires : tie.Need-arrow-from-requires Inv-loop μ-loop
+arrow-from-requires c κs = search needs
 
 least-after-requires : tie.Need-least-after-requires Inv-loop μ-loop
 least-after-requires c κs = search needs
@@ -102,7 +111,9 @@ returns c = (
 )
 
 serves-requires : tie.Need-serves-requires Inv-loop μ-loop
-serves-requires c κs = search needs
+serves-requires c κs =
+    let t = c .before in
+    pass-move (t .before .before .before .loop .inv .5) (taken t) (c .if1 .left)
 
 opens-requires : tie.Need-opens-requires Inv-loop μ-loop
 opens-requires c κs = search needs
@@ -200,8 +211,11 @@ lay-spec =
     number-requires
     number-requires-2
     number-requires-3
+    cast-first
+    mul-first
+    add-first
     loop-holds
-    arrow-at-requires
+    arrow-from-requires
     least-after-requires
     same-length
     same-length-2

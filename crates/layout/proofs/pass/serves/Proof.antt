@@ -1,17 +1,29 @@
--- `layout::pass::serves` meets its contract: the bit is the mask's. Assumes nothing.
+-- `layout::pass::serves` meets its contract: a shift is a quotient by a power of 2, and a bit is its rest. Assumes
+-- nothing.
+use mathlib.Core.Path.{_≡_, refl}
+use Prim.Native.Nat.{ℕ, zero, suc, _<_}
+use native.Mathlib.Omega.{arith}
+use lib.Dec.{eqb}
 use borrow.Author.Needs.{needs}
-use mathlib.Core.Path.{sym, _∙_}
+use Rattle.statements.specs.Sets.{pick, bit}
 use Rattle.layout.proofs.pass.serves.Statement.{statement}
 use Rattle.layout.proofs.pass.serves.Tie as tie
 
-bit-at-requires : tie.Need-bit-at-requires
-bit-at-requires c κs = search needs
+-- a rest by 2 is 1 where it is tested so, and otherwise 0
+rest-is : (r : ℕ) → r < 2 → r ≡ pick (eqb r 1) 1 0
+rest-is zero h = refl
+rest-is (suc zero) h = refl
+rest-is (suc (suc r)) h = absurd (omega arith)
+
+shr-result : tie.Need-shr-result
+shr-result c = search needs
+
+cast-result : tie.Need-cast-result
+cast-result c = search needs
 
 returns : tie.Need-returns
-returns c = rw (sym (c .before .bit-at .ensures) ∙ c .if1 .taken)
-
-returns-2 : tie.Need-returns-2
-returns-2 c = rw (sym (c .before .bit-at .ensures) ∙ c .if1 .left)
+unfolding bit
+returns c = rest-is _ (omega arith)
 
 pub serves-spec : {M : Type 1} → statement M
-serves-spec = tie.close (tie.spec bit-at-requires returns returns-2)
+serves-spec = tie.close (tie.spec shr-result cast-result returns)
