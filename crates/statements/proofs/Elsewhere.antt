@@ -113,7 +113,14 @@ marked-elsewhere =
           record {
             made = record { accepted = refl; short = refl; book = refl; lists-none = refl };
             other-made = record { accepted = refl; short = refl; book = refl; lists-none = refl };
-            figures = record { states = refl; moves = refl; goals = refl; settles = refl };
+            both =
+                record {
+                  room = 28;
+                  other-room = 28;
+                  made = refl;
+                  other-made = refl;
+                  figures = record { states = refl; moves = refl; goals = refl; settles = refl };
+                };
             agree = ring-agree;
             row-is = refl;
             other-row = refl;
@@ -123,7 +130,14 @@ marked-elsewhere =
           record {
             made = record { accepted = refl; short = refl; book = refl; lists-none = refl };
             other-made = record { accepted = refl; short = refl; book = refl; lists-none = refl };
-            figures = record { states = refl; moves = refl; goals = refl; settles = refl };
+            both =
+                record {
+                  room = 24;
+                  other-room = 24;
+                  made = refl;
+                  other-made = refl;
+                  figures = record { states = refl; moves = refl; goals = refl; settles = refl };
+                };
             agree = swap-agree;
             row-is = refl;
             other-row = refl;
@@ -133,7 +147,14 @@ marked-elsewhere =
           record {
             made = record { accepted = refl; short = refl; book = refl; lists-none = refl };
             other-made = record { accepted = refl; short = refl; book = refl; lists-none = refl };
-            figures = record { states = refl; moves = refl; goals = refl; settles = refl };
+            both =
+                record {
+                  room = 34;
+                  other-room = 34;
+                  made = refl;
+                  other-made = refl;
+                  figures = record { states = refl; moves = refl; goals = refl; settles = refl };
+                };
             agree = calm-agree;
             row-is = refl;
             other-row = refl;

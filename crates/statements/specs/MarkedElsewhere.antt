@@ -6,7 +6,7 @@ use Prim.Native.Nat.{ℕ}
 use Rattle.statements.specs.Plants.{plantOf}
 use Rattle.statements.specs.Books.{bytesOf, madeBook}
 use Rattle.statements.specs.Calls.{rowPart}
-use Rattle.statements.specs.Elsewhere.{AgreeFrom, SameFigures, SameRow}
+use Rattle.statements.specs.Elsewhere.{AgreeFrom, SameFigures, BothMade, SameRow}
 use Rattle.statements.specs.Marked.{Makes}
 use Rattle.statements.specs.MarkedStages.{plantOne}
 
@@ -50,7 +50,7 @@ plantBehind label =
 pub record SameFirst (s t : List ℕ) (mask room : ℕ) (b c row : List ℕ) : Type 0 where
   pub made : Makes s mask room b
   pub other-made : Makes t mask room c
-  pub figures : SameFigures (plantOf s) (plantOf t)
+  pub both : BothMade s t mask
   pub agree : AgreeFrom (plantOf s) (plantOf t) mask 0
   pub row-is : rowPart b 0 ≡ row
   pub other-row : rowPart c 0 ≡ row
