@@ -1,6 +1,7 @@
 #!/usr/bin/env python3
-"""What each public call cites besides its own contract is what the table "Cited" of docs/STATEMENTS.md says, no more and
-no less. That a clause which stands in the sources holds is proved; that it stands there is looked up here.
+"""What each public call, and the program's answer, cites besides its own contract is what the table "Cited" of
+docs/STATEMENTS.md says, no more and no less. That a clause which stands in the sources holds is proved; that it stands
+there is looked up here.
 
     tests/cited.py [TOP]
 """
@@ -12,8 +13,9 @@ CALLS = {
     "make": "make_book", "withdraw": "withdraw_moves", "list": "withdraw_list", "return": "return_moves",
     "make by index": "make_indexed", "withdraw by index": "withdraw_indexed", "index": "index_plant",
     "preview": "preview_withdrawal", "consult": "consult_book", "moves": "good_moves", "row": "state_row",
+    "gauge": "find_place", "program": "reply",
 }
-CRATES = ("books", "consult")
+CRATES = ("books", "consult", "gauge", "reply")
 FUNCTION = re.compile(r"^pub fn (\w+)(.*?)^\{", re.M | re.S)
 CLAUSE = re.compile(r"ensures \w+ \{ λ _\. ⌜ ([A-Z][\w-]*) ⌝ \}")
 
@@ -52,7 +54,7 @@ def main():
         print(f"cited: {line}")
     if wrong or not all(said.values()):
         raise SystemExit(1)
-    print(f"cited: {sum(map(len, said.values()))} clauses of {len(CALLS)} calls, as the table says")
+    print(f"cited: {sum(map(len, said.values()))} clauses of {len(CALLS)} functions, as the table says")
 
 
 if __name__ == "__main__":

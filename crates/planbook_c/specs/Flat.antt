@@ -3,11 +3,13 @@ use mathlib.Core.Path.{_≡_}
 use mathlib.Core.Bool.{_&&_}
 use mathlib.Core.List.{List}
 use Prim.Native.Nat.{ℕ}
-use lib.ListN.{length, take, drop}
+use lib.ListN.{length, take, drop, getD}
+use lib.Ieee.{Float}
 use Rattle.statements.specs.Sets.{pick}
 use Rattle.statements.specs.Books.{isLost, waitAt, moveAt, arrive}
 use Rattle.statements.specs.Calls.{consultFault, rowPart}
 use Rattle.promises.specs.Says.{accepted, keeps, rowStart}
+use Rattle.gauge.specs.Bands.{deviationOf, gaugeFault, bandAt, isFound}
 use Rattle.promises.specs.declared.Answer as planner
 use Rattle.promises.specs.declared.Cost as planner-cost
 use Rattle.promises.specs.declared.Mask as planner-mask
@@ -16,6 +18,7 @@ use Rattle.planbook_c.specs.declared.Cost.{Cost}
 use Rattle.planbook_c.specs.declared.Advice.{Advice}
 use Rattle.planbook_c.specs.declared.Mask.{Mask}
 use Rattle.planbook_c.specs.declared.Part.{Part}
+use Rattle.planbook_c.specs.declared.Place.{Place}
 
 -- an answer of make, of withdraw, of a list of withdrawals, of return or of index with the planner's own type
 abbrev pub plain : Answer → planner.Answer
@@ -45,3 +48,13 @@ pub record PartSays (b : List ℕ) (x : ℕ) (r : Part) : Type 0 where
   pub start : r .start ≡ rowStart b x
   pub long : r .length ≡ length (rowPart b x)
   pub bytes : take (r .length) (drop (r .start) b) ≡ rowPart b x
+
+-- a reading and an aim by a table of bands and S: a refusal's number or 0; 1 if some band holds the deviation, and the
+-- state of that band; every field that is not given is 0
+pub record PlaceIs (kinds : List ℕ) (ends : List Float) (states : List ℕ) (s : ℕ) (reading aim : Float)
+    (r : Place) : Type 0 where
+  pub number : r .number ≡ gaugeFault kinds ends states s reading aim
+  pub found : r .found ≡ pick (isFound kinds ends states s reading aim) 1 0
+  pub state : r .state ≡
+      pick (isFound kinds ends states s reading aim)
+      (getD states (bandAt kinds ends states (deviationOf reading aim)) 0) 0

@@ -4,7 +4,7 @@ ghost use mathlib.Core.Path.{_≡_};
 ghost use Rattle.statements.specs.Sets.{pick};
 ghost use Rattle.promises.specs.Says.{MakeSays, WithdrawSays, WithdrawListSays, ReturnSays, IndexSays, PreviewSays};
 ghost use Rattle.promises.specs.Says.{MakeIndexedSays, WithdrawIndexedSays, MovesSays};
-ghost use Rattle.planbook_c.specs.Flat.{plain, plainCost, plainMask, AdviceSays, PartSays};
+ghost use Rattle.planbook_c.specs.Flat.{plain, plainCost, plainMask, AdviceSays, PartSays, PlaceIs};
 
 // What make, withdraw, a list of withdrawals, return and index answer: a refusal's number or 0, the length of the book
 // or index, the number of states listed, which a return has gained and the others have dropped.
@@ -48,6 +48,14 @@ pub struct Part {
     pub number: u32,
     pub start: u32,
     pub length: u32,
+}
+
+// What the gauge call answers: a refusal's number or 0, 1 if a band holds the deviation, and that band's state.
+#[repr(C)]
+pub struct Place {
+    pub number: u32,
+    pub found: u32,
+    pub state: u32,
 }
 
 // The planner's answer as a struct of 32-bit numbers.
@@ -227,5 +235,29 @@ pub extern "C" fn planbook_row(book: &[u8], state: u32) -> Part
         number: 0,
         start: rows::row_place(book, state) as u32,
         length: row.len() as u32,
+    }
+}
+
+// Takes a table of bands as three lists, with two kinds, 0 for open and 1 for at, and two ends for each band, the lower
+// first, and its state; the number of states; and what the gauge shows and should show. Answers the state of the band
+// that holds the deviation.
+#[no_mangle]
+pub extern "C" fn planbook_gauge(
+    kinds: &[u8],
+    ends: &[f64],
+    band_states: &[u32],
+    states: u32,
+    reading: f64,
+    aim: f64,
+) -> Place
+    ensures { λ r. ⌜ PlaceIs (now (kinds .entry)) (now (ends .entry)) (now («band_states» .entry)) states
+        reading aim r ⌝ }
+{
+    let shown = gauge::Gauge { reading, aim };
+    let r = gauge::find_place(kinds, ends, band_states, states, shown);
+    Place {
+        number: r.number as u32,
+        found: one(r.found),
+        state: r.state,
     }
 }
