@@ -4,6 +4,8 @@
  * Link target/staticlib/libplanbook_c.a, made by `rt staticlib planbook_c`. There is no global state, no heap and no
  * thread: every call works on the memory it is lent and on less than 256 KiB of stack. Any bytes may be handed in.
  *
+ * planbook_gauge turns what a thickness gauge reads into a state, by a table of bands; it takes no plant and no book.
+ *
  * Plants, books and indexes are byte strings; docs/FORMATS.md describes them. There are two sorts. In a plant whose
  * last header number is 1 every run must settle: from some moment on all its states are settled, as bit 9 of their
  * labels says. In its books each row opens with a stage, and they are 2S bytes longer: 16 + 2S + 4SN. A plant with 0
@@ -28,6 +30,10 @@
  *   7  the book buffer is under 16 + 4SN bytes, for a plant that must settle under 16 + 2S + 4SN, or the drop buffer, or
  *      that for the states gained, under 2S; preview has the drop buffer alone, and index a buffer of 8 + 2E bytes
  *   8  the state is not below S, or the goal not below N
+ *  11  the table of bands is not in order: there are not 1 to 64 bands with two kinds and two ends for each, a kind is
+ *      neither 0 nor 1, an end that is a number is infinite or undefined, a band is empty (its upper end is not above
+ *      its lower one), a band begins before the one before it ends, or a state is not below the S given
+ *  12  the reading, the aim or the reading less the aim is infinite or undefined
  *
  * Buffers must not overlap: neither each other nor what is lent for reading. A buffer that is lent for writing keeps
  * every byte past what the call writes. A pointer may be null only where its length is 0.
@@ -51,6 +57,11 @@ extern "C" {
 #define PLANBOOK_BOOK_MAX 34832u
 #define PLANBOOK_DROPS_MAX 2048u
 #define PLANBOOK_MASKS_MAX 64u
+
+/* The most bands of a table, and the kinds of a band's end: open without limit, and at a number. */
+#define PLANBOOK_BANDS_MAX 64u
+#define PLANBOOK_OPEN 0u
+#define PLANBOOK_AT 1u
 
 /* What make, withdraw, withdraw_list, return and index answer. */
 typedef struct {
@@ -94,6 +105,13 @@ typedef struct {
     uint32_t number; /* 0, or why it was refused */
     uint32_t mask;   /* every good move for the goal arrived at (bit u is move u); 0 when the state is lost */
 } planbook_mask;
+
+/* What gauge answers. */
+typedef struct {
+    uint32_t number; /* 0, or why it was refused */
+    uint32_t found;  /* 1 when a band holds the deviation; 0 when it lies in a gap, and when refused */
+    uint32_t state;  /* that band's state, below S; 0 when none is found */
+} planbook_place;
 
 /*
  * Makes the book of a plant with the moves of a mask in service (bit u is move u). In a plant that must settle a state
@@ -189,6 +207,31 @@ planbook_part planbook_row(const uint8_t *book, size_t book_len, uint32_t state)
  */
 planbook_mask planbook_moves(const uint8_t *plant, size_t plant_len, const uint8_t *book, size_t book_len,
                              uint32_t state, uint32_t goal);
+
+/*
+ * From the gauge to a state: answers the state of the band that holds the deviation, which is the reading less the
+ * aim. Reading, aim and ends are millimetres.
+ *
+ * A table of n bands is three lists: 2n kinds, 2n ends and n states. For each band the lower end comes first, then the
+ * upper one. Kind 0 is an end open without limit, whatever number stands beside it; kind 1 is an end at the number
+ * beside it. The lengths count numbers, not bytes. `states` is S: every band's state must be below it.
+ *
+ * The lower end is in the band, the upper one is not. Bands rise and do not overlap; where two touch, the end is in the
+ * upper one. So only the first lower end and the last upper one can be open. A deviation between two bands or outside
+ * all is in a gap: the call is accepted, and found is 0. -0.0 equals 0.0 everywhere: as a deviation it is in a band
+ * from 0.0 on, and a band from one to the other is empty.
+ *
+ * The deviation is rounded once, as any subtraction of doubles is, and then held against the ends as they are: 4.1 less
+ * 0.1 is 3.9999999999999996, which is below an end of 4.0. The proof is about IEEE 754 binary64 rounded to nearest,
+ * ties to even. Programs start so. The calling thread must not have changed the rounding mode, as fesetround does, nor
+ * have small numbers flushed to zero or taken for zero, as linking with -ffast-math may do: the deviation could then be
+ * another.
+ *
+ * The table is checked in every call. Refusals 11, 12, in this order: a bad table is 11 whatever the reading is.
+ */
+planbook_place planbook_gauge(const uint8_t *kinds, size_t kinds_len, const double *ends, size_t ends_len,
+                              const uint32_t *band_states, size_t band_states_len, uint32_t states, double reading,
+                              double aim);
 
 #ifdef __cplusplus
 }

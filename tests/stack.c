@@ -1,5 +1,5 @@
 /*
- * How much stack the calls take: all eleven run on a stack of their own that is painted first, and what they overwrote
+ * How much stack the calls take: all twelve run on a stack of their own that is painted first, and what they overwrote
  * is counted, for a plant of each sort. Prints the figures; fails at 256 KiB or more. The plants are the largest there
  * are.
  */
@@ -61,6 +61,10 @@ static void calls(void) {
     refusals += index.number + made_by.number + gone_by.number;
     refusals += planbook_consult(out, gone.length, 1023, 7).number + planbook_row(out, gone.length, 1023).number;
     refusals += planbook_moves(plant, sizeof plant, out, gone.length, 1023, 7).number;
+    const uint8_t kinds[2] = {PLANBOOK_OPEN, PLANBOOK_OPEN};
+    const double ends[2] = {0.0, 0.0};
+    const uint32_t band_states[1] = {1023};
+    refusals += planbook_gauge(kinds, 2, ends, 2, band_states, 1, STATES, 2.013, 2.0).number;
 }
 
 /* Bytes of stack that the calls take with the plant that is built. */

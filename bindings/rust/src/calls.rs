@@ -1,7 +1,7 @@
-//! The eleven calls over slices, with the C interface's answers: one trait that the proved library and each second
-//! solver implement, so that tests and benchmarks treat them alike.
+//! The calls over slices, with the C interface's answers: one trait for the eleven of a planner and one for the gauge,
+//! which the proved library and the second solvers implement, so that tests and benchmarks treat them alike.
 
-use crate::sys::{Advice, Answer, Cost, Mask, Part};
+use crate::sys::{Advice, Answer, Cost, Mask, Part, Place};
 
 /// A planner: make, withdraw and row as document 01 has them, and moves, preview, consult, the list of withdrawals, the
 /// return of moves and the three calls for an index as requests (i), (iv), (v), (vi), (vii) and (viii) of document 02
@@ -59,6 +59,27 @@ pub trait Calls {
     /// Every good move: all that meet the rule for the entry of a state and the goal arrived at, as a mask, read on the
     /// book's own rows and mask.
     fn moves(&self, plant: &[u8], book: &[u8], state: u32, goal: u32) -> Mask;
+}
+
+/// A table of bands as it is lent: for each band two kinds and two ends, the lower one first, and a state.
+#[derive(Clone, Copy, Debug)]
+pub struct Lists<'a> {
+    /// [`crate::sys::OPEN`] or [`crate::sys::AT`].
+    pub kinds: &'a [u8],
+    /// Numbers of millimetres; one beside an open end means nothing.
+    pub ends: &'a [f64],
+    /// The bands' states.
+    pub states: &'a [u32],
+}
+
+/// From the gauge to a state, as request (xi) of document 02 has it.
+pub trait Gauges {
+    /// A short name for tables and messages.
+    fn name(&self) -> &'static str;
+
+    /// The state of the band that holds the deviation, which is the reading less the aim; `states` is S, which every
+    /// band's state must be below.
+    fn gauge(&self, lists: Lists, states: u32, reading: f64, aim: f64) -> Place;
 }
 
 /// The bytes of a list of masks: four for each, the low one first.
@@ -212,5 +233,29 @@ impl Calls for Linked {
     fn moves(&self, plant: &[u8], book: &[u8], state: u32, goal: u32) -> Mask {
         // SAFETY: each pointer and length is a slice's own.
         unsafe { crate::sys::planbook_moves(plant.as_ptr(), plant.len(), book.as_ptr(), book.len(), state, goal) }
+    }
+}
+
+#[cfg(feature = "linked")]
+impl Gauges for Linked {
+    fn name(&self) -> &'static str {
+        "planbook"
+    }
+
+    fn gauge(&self, lists: Lists, states: u32, reading: f64, aim: f64) -> Place {
+        // SAFETY: each pointer and length is a slice's own, and Rust's threads round to the nearest.
+        unsafe {
+            crate::sys::planbook_gauge(
+                lists.kinds.as_ptr(),
+                lists.kinds.len(),
+                lists.ends.as_ptr(),
+                lists.ends.len(),
+                lists.states.as_ptr(),
+                lists.states.len(),
+                states,
+                reading,
+                aim,
+            )
+        }
     }
 }

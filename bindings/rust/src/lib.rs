@@ -12,14 +12,16 @@
 //! An [`Index`] lists a plant's arrows by where they end. Kept beside the plant, it lets make and withdraw strike
 //! states out without reading all arrows again in every round; the books are the same.
 //!
-//! With the feature `linked`, which is on by default, [`Book`], [`Index`] and the functions [`make_into`],
+//! [`Bands`] turn what a thickness gauge reads into a state of the plant.
+//!
+//! With the feature `linked`, which is on by default, [`Book`], [`Index`], [`Bands`] and the functions [`make_into`],
 //! [`withdraw_into`], [`withdraw_list_into`], [`return_into`], [`index_into`], [`make_indexed_into`],
 //! [`withdraw_indexed_into`], [`preview_into`], [`consult`], [`row`] and [`good_moves`] call the proved library. They
 //! take slices, answer a [`Result`] with a [`Refusal`], and need no `unsafe` in the caller's code.
 //!
 #![cfg_attr(feature = "linked", doc = "```")]
 #![cfg_attr(not(feature = "linked"), doc = "```ignore")]
-//! use planbook::{Advice, Book, Index};
+//! use planbook::{Advice, Band, Bands, Book, End, Index};
 //!
 //! // Strip plant P: 4 states, 3 moves, 2 goals, 8 arrows.
 //! let plant = planbook::plants::strip().bytes();
@@ -57,12 +59,20 @@
 //! let book = Book::make(&planbook::plants::band().bytes(), 0b11)?;
 //! assert_eq!(book.stages().collect::<Vec<_>>(), [Some(2), Some(2), Some(1)]);
 //! assert_eq!(book.consult(0, 0)?, Advice::Move { action: 1, wait: 1, seek: 1 });
+//!
+//! // From the gauge to a state: half a millimetre below the aim or more is state 0, anything else state 1.
+//! let bands = Bands::new(&[
+//!     Band { lower: End::Open, upper: End::At(-0.5), state: 0 },
+//!     Band { lower: End::At(-0.5), upper: End::Open, state: 1 },
+//! ]);
+//! assert_eq!(bands.place(3, 1.25, 2.0)?, Some(0));
+//! assert_eq!(bands.place(3, 1.5, 2.0)?, Some(1));
 //! # Ok::<(), planbook::Refusal>(())
 //! ```
 //!
-//! The rest of the crate is for checking: [`second`] has solvers made by other means, [`plants`] generates plants,
-//! [`calls`] puts the library and the solvers behind one trait, and [`compare`] holds two of them against each other,
-//! byte for byte.
+//! The rest of the crate is for checking: [`second`] has solvers and gauges made by other means, [`plants`] generates
+//! plants, [`calls`] puts the library and what is made by other means behind the same traits, and [`compare`] holds two
+//! of them against each other, byte for byte.
 
 #![warn(missing_docs)]
 #![cfg_attr(test, deny(warnings))]
@@ -84,3 +94,7 @@ pub use book::{consult, good_moves, index_into, make_indexed_into, make_into, pr
 pub use book::{withdraw_indexed_into, withdraw_into, withdraw_list_into};
 #[cfg(feature = "linked")]
 pub use book::{Advice, Book, Cost, Entry, Index, Preview, Returned, Withdrawn};
+#[cfg(feature = "linked")]
+mod gauge;
+#[cfg(feature = "linked")]
+pub use gauge::{Band, Bands, End};

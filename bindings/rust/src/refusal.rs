@@ -2,8 +2,9 @@
 
 use std::fmt;
 
-/// The numbers 1 to 10 that a call may return in the place of a result. A refused call writes nothing. Where several
+/// The numbers 1 to 12 that a call may return in the place of a result. A refused call writes nothing. Where several
 /// apply the lowest is returned, but for 9, which comes straight before 6, and 10, which comes straight after 3.
+/// 11 and 12 are of the gauge, which has no others.
 #[derive(Clone, Copy, Debug, PartialEq, Eq, Hash)]
 #[non_exhaustive]
 pub enum Refusal {
@@ -27,12 +28,16 @@ pub enum Refusal {
     MaskList,
     /// 10: the bytes lent as index are not those of the plant's index.
     Index,
+    /// 11: the table of bands is not in order.
+    Bands,
+    /// 12: the reading, the aim or the deviation is not finite.
+    Reading,
     /// A number that this version of the wrapper does not know.
     Other(u32),
 }
 
 /// The refusals by their number, from 1 on, with what was wrong, where, and what to do.
-const KNOWN: [(Refusal, &str); 10] = [
+const KNOWN: [(Refusal, &str); 12] = [
     (
         Refusal::PlantHeader,
         "the plant's header is not valid or its length is not the one its header says (plant, bytes 0 to 15): lend \
@@ -85,6 +90,17 @@ const KNOWN: [(Refusal, &str); 10] = [
         "the bytes lent as index are not exactly the index of this plant (index, all of its 8 + 2E bytes): build it \
          anew from the plant's bytes, and lend the whole of it",
     ),
+    (
+        Refusal::Bands,
+        "the table of bands is not in order (bands): have 1 to 64 of them by rising deviation, each with its upper end \
+         above its lower one and none begun before the one before it ends, with ends that are open or finite numbers, \
+         open ones at the outside alone, and with states below S",
+    ),
+    (
+        Refusal::Reading,
+        "the reading, the aim or the reading less the aim is infinite or undefined (reading, aim): hand in finite \
+         numbers of millimetres, and look at the gauge",
+    ),
 ];
 
 impl Refusal {
@@ -106,6 +122,8 @@ impl Refusal {
             Refusal::OutOfBook => 8,
             Refusal::MaskList => 9,
             Refusal::Index => 10,
+            Refusal::Bands => 11,
+            Refusal::Reading => 12,
             Refusal::Other(number) => number,
         }
     }
@@ -136,7 +154,7 @@ mod tests {
         for number in 0..20 {
             let refusal = Refusal::from_number(number);
             assert_eq!(refusal.number(), number);
-            assert_eq!(matches!(refusal, Refusal::Other(_)), !(1..=10).contains(&number));
+            assert_eq!(matches!(refusal, Refusal::Other(_)), !(1..=12).contains(&number));
             assert!(refusal.to_string().starts_with(&format!("refused {number}: ")));
         }
     }

@@ -1,6 +1,6 @@
 //! The C interface as it is declared in `include/planbook.h`: the longest buffers, its answers, and with the feature
-//! `linked` its eleven functions. The functions are unsafe to call; [`crate::make_into`] and its neighbours are the
-//! safe way.
+//! `linked` its twelve functions. The functions are unsafe to call; [`crate::make_into`] and its neighbours and
+//! [`crate::Bands`] are the safe way.
 //!
 //! A refused answer has its number and 0 in every other field, and so has a lost one beside its `lost`.
 
@@ -15,6 +15,15 @@ pub const LONGEST_LIST: usize = 2 * 1024;
 
 /// The most bytes of a list of masks: 4 for each of 16 (`PLANBOOK_MASKS_MAX` in C).
 pub const LONGEST_MASKS: usize = 4 * 16;
+
+/// The most bands of a table (`PLANBOOK_BANDS_MAX` in C).
+pub const MOST_BANDS: usize = 64;
+
+/// The kind of an end that is open without limit (`PLANBOOK_OPEN` in C).
+pub const OPEN: u8 = 0;
+
+/// The kind of an end that is at a number (`PLANBOOK_AT` in C).
+pub const AT: u8 = 1;
 
 /// What make, withdraw, a list of withdrawals, return and index answer.
 #[repr(C)]
@@ -79,6 +88,18 @@ pub struct Mask {
     pub mask: u32,
 }
 
+/// What gauge answers.
+#[repr(C)]
+#[derive(Clone, Copy, Debug, Default, PartialEq, Eq)]
+pub struct Place {
+    /// 0, or the number of the refusal.
+    pub number: u32,
+    /// 1 if a band holds the deviation; 0 in a gap.
+    pub found: u32,
+    /// The state of that band; 0 if there is none.
+    pub state: u32,
+}
+
 macro_rules! refused {
     ($($answer:ident),*) => {$(
         impl $answer {
@@ -89,7 +110,7 @@ macro_rules! refused {
         }
     )*};
 }
-refused!(Answer, Cost, Advice, Part, Mask);
+refused!(Answer, Cost, Advice, Part, Mask, Place);
 
 #[cfg(feature = "linked")]
 extern "C" {
@@ -230,4 +251,21 @@ extern "C" {
         state: u32,
         goal: u32,
     ) -> Mask;
+
+    /// The state of the band that holds the deviation: the reading less the aim, rounded once.
+    ///
+    /// # Safety
+    /// `kinds` is good to read for `kinds_len` bytes, and `ends` and `band_states` for `ends_len` and `band_states_len`
+    /// numbers. The thread rounds floats to the nearest, ties to even, and does not flush small ones to 0.
+    pub fn planbook_gauge(
+        kinds: *const u8,
+        kinds_len: usize,
+        ends: *const f64,
+        ends_len: usize,
+        band_states: *const u32,
+        band_states_len: usize,
+        states: u32,
+        reading: f64,
+        aim: f64,
+    ) -> Place;
 }

@@ -1,4 +1,4 @@
-//! The proved library against the worklist solver, byte for byte. Needs the archive.
+//! The proved library against the worklist solver, byte for byte, and against the exact gauge. Needs the archive.
 //!
 //! PLANBOOK_CALLS sets how many calls of each random kind are compared; the binary `soak` runs longer still.
 
@@ -8,9 +8,10 @@ mod document;
 mod promises;
 
 use planbook::calls::Linked;
+use planbook::compare::gauges::{self, GaugeComparison};
 use planbook::compare::{rounds, Comparison};
 use planbook::plants::{Family, Random, FAMILIES, WAYS_TO_SETTLE};
-use planbook::second::Fast;
+use planbook::second::{gauge::Exact, Fast};
 
 /// Where the seeds of the random rounds begin.
 const SEED: u64 = 1;
@@ -41,6 +42,7 @@ fn documents_01_and_02() {
     document::index::indexes(&Linked);
     document::index::books_by_index(&Linked);
     document::index::refusals(&Linked);
+    document::gauge::all(&Linked);
 }
 
 /// A test for each promise.
@@ -76,9 +78,37 @@ fn exhaustive_rounds() {
     println!("{}", comparison.summary());
 }
 
+/// How many calls of each random kind are compared.
+fn calls_of_a_kind() -> u64 {
+    std::env::var("PLANBOOK_CALLS").map_or(300_000, |word| word.parse().expect("a number of calls"))
+}
+
+#[test]
+fn exhaustive_rounds_of_the_gauge() {
+    let mut comparison = GaugeComparison::new(&Linked, &Exact);
+    for round in gauges::rounds::EXHAUSTIVE_ROUNDS {
+        round(&mut comparison);
+    }
+    println!("{}", comparison.summary());
+}
+
+#[test]
+fn random_rounds_of_the_gauge() {
+    let calls = calls_of_a_kind();
+    // In all rounds together, each sort of refusal and of answer, deviations at ends, and rounded ones.
+    let mut counts = [0; 6];
+    for (name, round) in gauges::rounds::RANDOM_ROUNDS {
+        let mut comparison = GaugeComparison::new(&Linked, &Exact);
+        let rounds = gauges::rounds::run(&mut comparison, round, SEED, calls);
+        println!("{name}, {rounds} rounds from seed {SEED}: {}", comparison.summary());
+        counts = std::array::from_fn(|at| counts[at] + comparison.counts()[at]);
+    }
+    assert!(counts.iter().all(|&many| many > calls / 20), "{counts:?} calls of the gauge");
+}
+
 #[test]
 fn random_rounds() {
-    let calls = std::env::var("PLANBOOK_CALLS").map_or(300_000, |word| word.parse().expect("a number of calls"));
+    let calls = calls_of_a_kind();
     // In all rounds together, how many consults pass goals, and how many find all of several goals served; in how many
     // lists of withdrawals one after the first drops states, and in how many two or more do; and how many returns list
     // states, and how many have lost a state that the book handed in keeps.

@@ -1,4 +1,5 @@
-//! The second solvers against document 01 and against each other: brute force, sweeps and worklist. Needs no archive.
+//! The second solvers against document 01 and against each other: brute force, sweeps and worklist; and the second
+//! gauges. Needs no archive.
 
 #![deny(warnings)]
 
@@ -6,9 +7,11 @@ mod document;
 mod promises;
 
 use planbook::calls::{mask_bytes, Calls};
+use planbook::compare::gauges::{self, rounds::beside, rounds::special_floats, GaugeComparison};
 use planbook::compare::{rounds, Comparison};
 use planbook::plants::{self, Family, Model, Random, FAMILIES, WAYS_TO_SETTLE};
 use planbook::second::format::{index_bytes, number, read_index, BookView, Plant};
+use planbook::second::gauge::{self, deviation, Steps};
 use planbook::second::{effort, Brute, Fast, Plain};
 use planbook::Refusal;
 
@@ -322,4 +325,73 @@ fn sweeps_and_worklist_agree_in_every_round() {
     assert!(gaining > 2_000 && losing > 1_500);
     let [indexed, partial, misfits] = comparison.indexes();
     assert!(indexed > 10_000 && partial > 300 && misfits > 50_000);
+}
+
+/// The exact gauge against the documents, and the one by the machine's floats against it.
+#[test]
+fn gauges() {
+    document::gauge::all(&gauge::Exact);
+    document::gauge::all(&gauge::Plain);
+    let mut comparison = GaugeComparison::new(&gauge::Plain, &gauge::Exact);
+    for round in gauges::rounds::EXHAUSTIVE_ROUNDS {
+        round(&mut comparison);
+    }
+    for (_, round) in gauges::rounds::RANDOM_ROUNDS {
+        gauges::rounds::run(&mut comparison, round, 1, 20_000);
+    }
+    println!("{}", comparison.summary());
+}
+
+/// A whole number of steps is what a float is told from: order, difference and rounding of the machine's floats are
+/// those of the numbers that they stand for.
+#[test]
+fn floats_are_whole_numbers_of_steps() {
+    let (mut pairs, mut rounded, mut ties, mut infinite) = (0, 0, 0, 0);
+    for [one, other] in pairs_of_floats() {
+        let [exact, exact_other] = [one, other].map(|float| Steps::of(float).expect("a finite float"));
+        assert_eq!(Some(exact.cmp(&exact_other)), one.partial_cmp(&other), "{one:?} and {other:?}");
+        let difference = exact.less(&exact_other);
+        assert_eq!(deviation(one, other), Steps::of(one - other), "{one:?} less {other:?}");
+        pairs += 1;
+        match deviation(one, other) {
+            None => infinite += 1,
+            Some(near) if near != difference => {
+                rounded += 1;
+                // A tie: as far away on the other side lies a float, too.
+                let off = difference.less(&near);
+                let over = difference.less(&Steps::default().less(&off));
+                ties += u32::from(over.rounded() == Some(over));
+            }
+            Some(_) => {}
+        }
+    }
+    println!("{pairs} differences, {rounded} of them rounded, {ties} from between two floats, {infinite} not finite");
+    assert!([rounded, ties, infinite].iter().all(|&many| many > 1_000));
+}
+
+/// Finite floats: all pairs at the edges and next to them, and random ones, of any bits and of like size; of these some
+/// whose difference lies right between two floats.
+fn pairs_of_floats() -> impl Iterator<Item = [f64; 2]> {
+    let finite = special_floats().into_iter().filter(|float| float.is_finite());
+    let edges: Vec<f64> = finite.flat_map(|float| [-1, 0, 1].map(|places| beside(float, places))).collect();
+    let edges: Vec<f64> = edges.into_iter().filter(|float| float.is_finite()).collect();
+    let at_edges =
+        edges.clone().into_iter().flat_map(move |one| edges.clone().into_iter().map(move |other| [one, other]));
+    let mut random = Random::new(11);
+    let drawn = (0..400_000).map(move |at| {
+        let one = f64::from_bits(random.bits());
+        let (away, low_bits) = (random.below(120) as u64, random.bits() >> 12);
+        let near = f64::from_bits(one.to_bits().wrapping_sub(away << 52) ^ low_bits);
+        let beside_it = f64::from_bits(one.to_bits() ^ low_bits >> random.below(52));
+        let largest = f64::from_bits(f64::MAX.to_bits() ^ low_bits);
+        match at % 6 {
+            0 => [one, f64::from_bits(random.bits())],
+            1 => [one, near],
+            2 => [one, -near],
+            3 => [one, beside_it],
+            4 => [largest, -near.abs() - largest / 2.0],
+            _ => [one, (beside(one.abs(), 1) - one.abs()) * (random.below(64) as f64 + 0.5)],
+        }
+    });
+    at_edges.chain(drawn).filter(|pair| pair.iter().all(|float| float.is_finite()))
 }

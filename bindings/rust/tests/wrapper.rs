@@ -4,7 +4,7 @@
 
 use planbook::{consult, good_moves, index_into, make_indexed_into, make_into, plants, preview_into, return_into};
 use planbook::{row, withdraw_indexed_into, withdraw_into, withdraw_list_into};
-use planbook::{Advice, Book, Cost, Entry, Index, Preview, Refusal, Returned, Withdrawn};
+use planbook::{Advice, Band, Bands, Book, Cost, End, Entry, Index, Preview, Refusal, Returned, Withdrawn};
 
 #[test]
 fn a_book_owns_its_bytes_and_the_plant() {
@@ -375,4 +375,37 @@ fn every_refusal_by_an_index_has_its_name() {
     assert_eq!(make_indexed_into(&plant, &other, 8, &mut book[..47]), Err(Refusal::Index));
     assert_eq!(make_indexed_into(&plant, &index, 8, &mut book[..47]), Err(Refusal::Mask));
     assert_eq!(make_indexed_into(&plant, &index, 7, &mut book[..47]), Err(Refusal::Buffer));
+}
+
+/// Below -1, from -1 to 1 and from 2 on.
+#[test]
+fn bands_place_a_reading() {
+    let bands = [
+        Band { lower: End::Open, upper: End::At(-1.0), state: 5 },
+        Band { lower: End::At(-1.0), upper: End::At(1.0), state: 6 },
+        Band { lower: End::At(2.0), upper: End::Open, state: 7 },
+    ];
+    let table = Bands::new(&bands);
+    let places = [-1e300, -1.5, -1.0, 0.0, 1.0, 1.5, 2.0, 1e300].map(|reading| table.place(8, reading, 0.0));
+    let told = [Some(5), Some(5), Some(6), Some(6), None, None, Some(7), Some(7)];
+    assert_eq!(places, told.map(Ok));
+    assert_eq!(table.place(8, 3.5, 1.5), Ok(Some(7)));
+    assert_eq!(table.place(7, 0.0, 0.0), Err(Refusal::Bands)); // state 7 of 7
+    assert_eq!(table.place(8, f64::INFINITY, 0.0), Err(Refusal::Reading));
+    assert_eq!(table.place(8, f64::MAX, -f64::MAX), Err(Refusal::Reading));
+    assert_eq!(table, Bands::new(&bands));
+    assert_eq!(Bands::new(&[bands[1]; 2]).place(8, f64::NAN, 0.0), Err(Refusal::Bands));
+    // they overlap
+}
+
+/// Any number of bands can be put in a table, and 1 to 64 are accepted.
+#[test]
+fn bands_are_counted_by_the_library() {
+    for count in [0, 1, 63, 64, 65, 1000] {
+        let band = |at: u32| Band { lower: End::At(at.into()), upper: End::At(f64::from(at) + 1.0), state: at };
+        let table = Bands::new(&(0..count).map(band).collect::<Vec<_>>());
+        let told = if (1..=64).contains(&count) { Ok(Some(count - 1)) } else { Err(Refusal::Bands) };
+        assert_eq!(table.place(count, f64::from(count) - 0.5, 0.0), told, "{count} bands");
+    }
+    assert_eq!(Bands::default().place(1, 0.0, 0.0), Err(Refusal::Bands));
 }

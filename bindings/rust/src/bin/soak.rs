@@ -1,9 +1,10 @@
 //! Compares the proved library with the worklist solver for as many calls as asked:
-//! `soak [CALLS [SEED]]`, 10,000,000 calls from seed 1 if not said.
+//! `soak [CALLS [SEED]]`, 10,000,000 calls from seed 1 if not said. Then as many calls of the gauge with the exact one.
 
 use planbook::calls::Linked;
+use planbook::compare::gauges::{self, GaugeComparison};
 use planbook::compare::{rounds, Comparison};
-use planbook::second::Fast;
+use planbook::second::{gauge::Exact, Fast};
 
 /// How many calls of one kind are compared before the next kind has its turn.
 const TURN: u64 = 50_000;
@@ -21,6 +22,23 @@ fn main() {
         for ((name, round), seed) in rounds::RANDOM_ROUNDS.into_iter().zip(&mut seeds) {
             eprintln!("{} calls compared; {name} from seed {seed}", comparison.calls());
             *seed += rounds::run(&mut comparison, round, *seed, TURN);
+        }
+    }
+    println!("{}; seeds {first_seed} to {seeds:?}", comparison.summary());
+    compare_gauges(calls, first_seed);
+}
+
+/// The gauge, for so many calls.
+fn compare_gauges(calls: u64, first_seed: u64) {
+    let mut comparison = GaugeComparison::new(&Linked, &Exact);
+    for round in gauges::rounds::EXHAUSTIVE_ROUNDS {
+        round(&mut comparison);
+    }
+    let mut seeds = [first_seed; gauges::rounds::RANDOM_ROUNDS.len()];
+    while comparison.calls() < calls {
+        for ((name, round), seed) in gauges::rounds::RANDOM_ROUNDS.into_iter().zip(&mut seeds) {
+            eprintln!("{} calls of the gauge compared; {name} from seed {seed}", comparison.calls());
+            *seed += gauges::rounds::run(&mut comparison, round, *seed, TURN);
         }
     }
     println!("{}; seeds {first_seed} to {seeds:?}", comparison.summary());

@@ -11,10 +11,13 @@
 //! They share the checks and the layout of the bytes ([`mod@format`]) and the frame of the calls in this file, and nothing
 //! of the solving: each turns a [`Plant`], the moves in service and the states it may use into a [`Table`]. In a plant
 //! whose runs must settle they find the stages of request (ix) one after another.
+//!
+//! Second gauges for request (xi) stand in [`gauge`].
 
 mod brute;
 mod fast;
 pub mod format;
+pub mod gauge;
 mod plain;
 
 pub use brute::{effort, Brute};

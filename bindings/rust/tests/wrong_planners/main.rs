@@ -3,6 +3,7 @@
 #![deny(warnings)]
 
 use std::panic::{catch_unwind, set_hook, take_hook, AssertUnwindSafe};
+use std::sync::Mutex;
 
 use planbook::calls::{mask_bytes, Calls};
 use planbook::compare::{rounds, Comparison};
@@ -60,6 +61,7 @@ impl Solve for ShortWaits {
     }
 }
 
+mod gauges;
 mod indexes;
 mod settling;
 
@@ -871,15 +873,23 @@ fn compare(planner: &dyn Calls, second: &dyn Calls) {
     }
 }
 
-/// Finds each of these planners to differ from the one beside it. The message has its name and the call's input, with
-/// the part that is named.
+/// Finds each of these planners to differ from the one beside it.
 fn check_found<'a>(pairs: impl Iterator<Item = [&'a dyn Calls; 2]>, part: &str) {
+    differences(pairs.map(|[wrong, second]| (wrong.name(), move || compare(wrong, second))), part);
+}
+
+/// One at a time: what is printed of a panic is one for all tests.
+static QUIET: Mutex<()> = Mutex::new(());
+
+/// Each of these comparisons finds a difference. The message has the name beside it and the call's input, with the part
+/// that is named.
+fn differences<C: FnOnce()>(comparisons: impl Iterator<Item = (&'static str, C)>, part: &str) {
+    let quiet = QUIET.lock();
     // The differences are wanted: nothing is printed of them.
     set_hook(Box::new(|_| {}));
-    let compared =
-        |[wrong, second]: [&'a dyn Calls; 2]| (wrong.name(), catch_unwind(AssertUnwindSafe(|| compare(wrong, second))));
-    let found: Vec<_> = pairs.map(compared).collect();
+    let found: Vec<_> = comparisons.map(|(name, compare)| (name, catch_unwind(AssertUnwindSafe(compare)))).collect();
     let _ = take_hook();
+    drop(quiet);
     for (name, compared) in found {
         let payload = compared.err().unwrap_or_else(|| panic!("{name}: no difference"));
         let message = payload.downcast::<String>().expect("a message");

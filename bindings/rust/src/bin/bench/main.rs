@@ -30,17 +30,21 @@
 //! checks the plant and no more; moves in the state that serves all goals, which has one arrow, and in the busiest state
 //! there can be; and how many times as long as the first consult each solver takes for these.
 //!
+//! Then stands the gauge: a call with 1, 8 and 64 bands, in nanoseconds, for the library and for what one writes by
+//! hand with the machine's floats, over 64 tables with 16 readings each in turn.
+//!
 //! At the end stand plants that are slow to make, without settling and with it: one make each, in seconds, by all but
 //! the plain solver, and for slow families the growth of that from 512 states to 1,024.
 //!
 //! `bench --count FAMILY STATES [PLANTS [SOLVER]]` measures nothing: it makes one make and one withdrawal, one index
 //! and one of each by it for each of so many plants of a family (twelve), by one solver (the first), for a tool that
 //! counts instructions, as `tests/counts.sh` does. `bench --families` prints the names of the families that are not slow, and
-//! `bench --only FAMILY...` measures no others.
+//! `bench --only FAMILY...` measures no others; `gauge` stands for the gauge there.
 
 mod cases;
 mod clock;
 mod count;
+mod gauge;
 mod print;
 mod slow;
 
@@ -51,6 +55,9 @@ use planbook::second::{Fast, Plain};
 use print::{print_growth, print_heading, print_line, print_mean_ratio, print_ratio, print_times};
 
 const SIZES: [u16; 4] = [64, 256, 512, 1024];
+
+/// The name by which the gauge is asked for.
+const GAUGE: &str = "gauge";
 
 /// How many plants of a family are measured in turn.
 const PLANTS: u64 = 12;
@@ -97,15 +104,22 @@ fn print_all(planners: &[&dyn Calls]) {
         print_mean_ratio(ratio.map(place), &all);
     }
     slow::print_lookups(planners);
+    gauge::print_gauge();
     slow::print_slow(planners);
 }
 
-/// The families of these names, and nothing else.
+/// The families of these names, or the gauge, and nothing else.
 fn print_only(planners: &[&dyn Calls], names: &[&str]) {
+    if names == [GAUGE] {
+        return gauge::print_gauge();
+    }
     print_heading(planners);
-    for name in names {
+    for name in names.iter().filter(|name| **name != GAUGE) {
         let family = quick_families().find(|family| family.name() == *name).expect("the name of a family");
         print_family(planners, family);
+    }
+    if names.contains(&GAUGE) {
+        gauge::print_gauge();
     }
 }
 
