@@ -1,4 +1,5 @@
-"""Tests of ./run and of plant.py, picture.py, cost.py, gain.py and reach.py in tools/. tests/tools.sh runs them."""
+"""Tests of ./run and of plant.py, picture.py, cost.py, gain.py, reach.py and gauge.py in tools/. tests/tools.sh runs
+them."""
 from __future__ import annotations
 
 import os
@@ -13,6 +14,7 @@ import unittest
 import xml.etree.ElementTree as xml
 from collections import Counter
 from dataclasses import dataclass, replace
+from fractions import Fraction
 from typing import Callable, Dict, List, Optional, Set, Tuple
 
 TOP = os.path.dirname(os.path.dirname(os.path.abspath(__file__)))
@@ -21,14 +23,16 @@ sys.path.insert(0, os.path.join(TOP, "tools"))
 import cost  # noqa: E402
 import facts  # noqa: E402
 import gain  # noqa: E402
+import gauge  # noqa: E402
 import listing  # noqa: E402
 import plant  # noqa: E402
 import reach  # noqa: E402
 
 RUN = os.path.join(TOP, "run")
-PLANT_PY, PICTURE_PY, COST_PY, GAIN_PY, REACH_PY = (os.path.join(TOP, "tools", f"{name}.py")
-                                                    for name in ("plant", "picture", "cost", "gain", "reach"))
+PLANT_PY, PICTURE_PY, COST_PY, GAIN_PY, REACH_PY, GAUGE_PY = (
+    os.path.join(TOP, "tools", f"{name}.py") for name in ("plant", "picture", "cost", "gain", "reach", "gauge"))
 EXAMPLES = os.path.join(TOP, "examples")
+BANDS = os.path.join(EXAMPLES, "gauge-bands.bands")
 EXAMPLE_PLANTS = sorted(name for name in os.listdir(EXAMPLES) if name.endswith(".plant"))
 
 # Document 01's listing of P with masks 7 and 4, written by hand.
@@ -349,6 +353,7 @@ class Run(Case):
         self.assertIn("--cost PLANT", out)
         self.assertIn("--gain PLANT", out)
         self.assertIn("--reach STATE PLANT MASK", out)
+        self.assertIn("gauge BANDS READING AIM", out)
         self.fails(2, "unknown option --colour", RUN, "--colour")
         self.fails(2, "there is no such file", RUN, "", "7")
 
@@ -489,6 +494,82 @@ class Build(Case):
         env = {**self.env, "PLANBOOK_BIN": self.path("planner")}
         self.assertEqual(self.call(*nobody, self.path("top/run"), env=env), (0, STRIP_LISTING, ""))
 
+    def builds_library(self) -> None:
+        """Stand-ins that build the library: rt the archive, and cc the library, at the place that follows -o."""
+        self.stand_in("mkdir -p target/staticlib && echo archive >target/staticlib/libplanbook_c.a\n"
+                      "echo 'rt: laws proved (3 s)'; echo 'rt: rows proved (unchanged since it was last proved)'")
+        self.program("bin/cc", f'echo "$@" >>"{self.path("links")}"; [ "$2" = -o ] || exit 1\n'
+                     f'grep -q archive target/staticlib/libplanbook_c.a && cp "{os.environ["PLANBOOK_LIB"]}" "$3"')
+        self.write("top/crates.txt", self.CRATES + b"planbook_c: rows\n")
+        self.env["PLANBOOK_LIB"] = ""
+
+    def places(self, calls: int) -> str:
+        """./run gauge answers, and has asked rt so many times by then: what it said on the way."""
+        code, out, error = self.call(self.path("top/run"), "gauge", BANDS, "2.013", "2", env=self.env)
+        self.assertEqual((code, out), (0, ON_AIM), error)
+        self.assertEqual(self.calls(), ["staticlib planbook_c"] * calls)
+        return error
+
+    def test_the_library_is_built_when_missing_or_old_and_not_again(self) -> None:
+        self.builds_library()
+        library = self.path("top/target/libplanbook.so")
+        lines = self.places(1).splitlines()
+        self.assertRegex(lines[0], "^run: proving and building libplanbook.so; this may take .* minutes")
+        self.assertEqual(lines[1:], ["run: 1 of 3 proved: laws"])
+        with open(self.path("links"), encoding="utf-8") as file:
+            self.assertEqual(file.read(), "-shared -o target/libplanbook.so -Wl,--whole-archive target/staticlib/"
+                             "libplanbook_c.a -Wl,--no-whole-archive -Wl,-z,defs -Wl,-z,relro,-z,now\n")
+        self.assertEqual(self.places(1), "")
+        self.write("top/crates/rows/source", b"more")
+        self.places(2)
+        with open(library, "ab") as file:
+            file.write(b"\0")  # another library than the one that was built
+        self.places(3)
+        os.remove(library)
+        self.places(4)
+        self.assertEqual(self.places(4), "")
+        self.assertFalse(os.path.exists(self.planner))  # the gauge needs no planner
+
+    def test_planner_and_library_have_records_of_their_own(self) -> None:
+        self.builds_library()
+        self.places(1)
+        os.remove(self.path("calls"))
+        self.builds()
+        self.lists(1)
+        self.write("top/crates/rows/source", b"more")
+        self.lists(2)
+        os.remove(self.path("calls"))
+        self.builds_library()
+        self.places(1)
+        self.assertEqual(self.places(1), "")
+
+    def test_a_library_that_cannot_be_built(self) -> None:
+        self.builds_library()
+        few = {**self.env, "PATH": self.few_tools()}
+        os.symlink(sys.executable, self.path("few/python3"))
+        call = [self.path("few/bash"), self.path("top/run"), "gauge", BANDS, "2.013", "2"]
+        self.fails(3, "libplanbook.so is not built, and rt (the Rattle toolchain) is not on the PATH", *call, env=few)
+        os.symlink(self.path("bin/rt"), self.path("few/rt"))
+        self.fails(3, "libplanbook.so is not built, and cc (a C compiler) is not on the PATH to link it\n", *call,
+                   env=few)
+        self.places(1)
+        self.assertEqual(self.call(*call, env=few), (0, ON_AIM, ""))
+        self.write("top/crates/rows/source", b"more")
+        library = self.path("top/target/libplanbook.so")
+        self.fails(3, "target/libplanbook.so was not built from the sources that are here now, and cc (a C compiler) "
+                   f"is not on the PATH to link it; to use it all the same, set PLANBOOK_LIB={library}\n", *call,
+                   env=few)
+        self.assertEqual(self.call(*call, env={**few, "PLANBOOK_LIB": library}), (0, ON_AIM, ""))
+        for script in ("exit 1", "kill -9 $$"):
+            self.program("bin/cc", script)
+            code, out, error = self.call(self.path("top/run"), *call[2:], env=self.env)
+            self.assertEqual((code, out), (3, ""))
+            self.assertEqual(error.splitlines()[-1],
+                             "run: libplanbook.so could not be built; target/run-build.log has the reason")
+        os.remove(library)
+        self.program("bin/cc", "exit 0")
+        self.assertIn("rt built no libplanbook.so", self.call(self.path("top/run"), *call[2:], env=self.env)[2])
+
     def test_by_a_symbolic_link(self) -> None:
         self.builds()
         os.symlink("top/run", self.path("one"))
@@ -529,7 +610,8 @@ class Machine(Case):
     def questions(self) -> List[List[str]]:
         strip = self.example("strip")
         return [[RUN], [RUN, "--help"], [RUN, "--picture", "-", strip, "7"], [RUN, "--cost", strip, "7", "1"],
-                [RUN, "--gain", strip, "7", "1", "1"], [RUN, "--reach", "0", strip, "7"]]
+                [RUN, "--gain", strip, "7", "1", "1"], [RUN, "--reach", "0", strip, "7"],
+                [RUN, "gauge", BANDS, "2", "2"]]
 
     def long_plant(self) -> str:
         return self.write("long.bin", plant.to_bytes(LONG))
@@ -571,7 +653,8 @@ class Machine(Case):
             self.assertEqual(self.shell(script, RUN), (0, STRIP_LISTING, ""))
             for status, words in ((1, [RUN, strip, "8"]), (2, [RUN, strip, "x"]), (2, [RUN, "none", "7"]),
                                   (1, [RUN, "--cost", strip, "7", "8"]), (2, [PLANT_PY, "check", "none"]),
-                                  (2, [COST_PY]), (1, [COST_PY, strip, "7", "8"])):
+                                  (2, [COST_PY]), (1, [COST_PY, strip, "7", "8"]), (2, [RUN, "gauge", strip, "1", "1"]),
+                                  (1, [RUN, "gauge", BANDS, "1e999", "2"]), (1, [GAUGE_PY, BANDS, "1e999", "2"])):
                 self.assertEqual(self.shell(script, *words), (status, "", ""), words)
             self.assertEqual(self.shell(script + " >&-", RUN), (3, "", ""))
         # Its reader is gone when the error is said.
@@ -580,7 +663,7 @@ class Machine(Case):
 
     def test_temporary_folder(self) -> None:
         for folder in (self.path("none"), "/proc", self.example("strip")):
-            for call in ([RUN], [RUN, "--cost", self.example("strip"), "7", "1"]):
+            for call in ([RUN], [RUN, "--cost", self.example("strip"), "7", "1"], [RUN, "gauge", BANDS, "2", "2"]):
                 self.fails(3, f"no temporary folder can be made in {folder}", *call, env={"TMPDIR": folder})
         self.assertEqual(self.call(RUN, "--help", env={"TMPDIR": self.path("none")})[0], 0)
         os.mkdir(self.path("temporary"))
@@ -593,13 +676,14 @@ class Machine(Case):
         env = {"PATH": self.path("bin") + os.pathsep + os.environ["PATH"]}
         for script in ("exit 0", "exit 1", "exit 127", "kill -9 $$", "echo Fatal error >&2; exit 2"):
             self.program("bin/python3", script)
-            for call in ([RUN, strip, "7"], [RUN, "--cost", bytes_, "1", "1"]):
+            for call in ([RUN, strip, "7"], [RUN, "--cost", bytes_, "1", "1"], [RUN, "gauge", BANDS, "2", "2"]):
                 self.fails(3, "the one on the PATH cannot run", *call, env=env)
         self.assertEqual(self.call(RUN, bytes_, "1", env=env)[0], 0)  # bytes need none
         for script in ("exit 1", "echo a >&2; echo b >&2; exit 2", "kill -9 $$", "exit 77"):
             self.program("bin/python3", f'[ "$1" != -c ] || exec {sys.executable} "$@"\n{script}')
             self.fails(3, "python3 could not run tools/plant.py", RUN, strip, "7", env=env)
             self.fails(3, "python3 could not run tools/cost.py", RUN, "--cost", bytes_, "1", "1", env=env)
+            self.fails(3, "python3 could not run tools/gauge.py", RUN, "gauge", BANDS, "2", "2", env=env)
 
     def test_a_planner_that_cannot_be_run(self) -> None:
         path = self.write("planner", b"\x7fELF\0\0")
@@ -612,11 +696,12 @@ class Machine(Case):
         scripts = ('exec "$0" "$@" >/dev/full', 'exec "$0" "$@" >&-', '"$0" "$@" | true; exit ${PIPESTATUS[0]}')
         for env, used in (({}, scripts), ({"PYTHONUNBUFFERED": "1"}, scripts[:1]), (self.ASCII, scripts[1:2])):
             for call in ([PLANT_PY, "check", strip], [PLANT_PY, "--help"], [PLANT_PY, "encode", strip, "-"],
-                         [COST_PY, strip, "7", "1"], [PICTURE_PY, "-", strip, "7"], [GAIN_PY, "-h"]):
+                         [COST_PY, strip, "7", "1"], [PICTURE_PY, "-", strip, "7"], [GAIN_PY, "-h"],
+                         [GAUGE_PY, BANDS, "2", "2"]):
                 for script in used:
                     self.breaks("standard output could not be written", script, *call, env=env)
             for call in ([PLANT_PY, "check", text], [COST_PY, text, "7", "1"], [RUN, text, "7"],
-                         [RUN, "--picture", "-", text, "7"]):
+                         [RUN, "--picture", "-", text, "7"], [RUN, "gauge", text, "2", "2"]):
                 self.fails(2, "bad?.plant:1: the first line is", *call, env=env)
 
     def test_files_that_cannot_be_written(self) -> None:
@@ -652,7 +737,7 @@ class Machine(Case):
         for code in ("utf-16", "utf-16-le", "utf-16-be"):
             path = self.write("a.plant", text.encode(code))
             for call in ([RUN, path, "7"], [RUN, "--cost", path, "7", "1"], [PLANT_PY, "check", path],
-                         [PLANT_PY, "encode", path, self.path("out.bin")]):
+                         [PLANT_PY, "encode", path, self.path("out.bin")], [RUN, "gauge", path, "2", "2"]):
                 self.fails(2, "a.plant:1: the text is UTF-16; save it as UTF-8", *call)
         # Bytes that look alike but for one number are a plant: S 35, U 32 and N 8 are no three letters.
         like = plant.Plant(35, 32, 8, [1] * 35, [])
@@ -1526,13 +1611,786 @@ class Elsewhere(unittest.TestCase):
         self.assertGreater(shorter, 20)
 
 
+# What ./run gauge says of strip that is 0.013 mm off its aim of 2 mm.
+ON_AIM = "state 2  on aim\ndeviation 0.013 mm (2.013 less 2): band -0.02 .. 0.02\n"
+
+TABLE = """plant "p.plant"
+band open .. -1 state 0
+band -1 .. 1 state "b"
+band 2 .. open state "c"
+"""
+
+
+class Bands(Case):
+    """A table of bands as text."""
+
+    # Texts with the line and the words of their error.
+    TEXTS: List[Tuple[str, int, str]] = [
+        ("", 1, "the file has no line 'plant \"FILE\"'"),
+        ("# only words\n\n", 1, "the file has no line 'plant \"FILE\"'"),
+        ("\nband open .. 1 state 0\n", 2, "the first line is 'plant \"FILE\"', found 'band'"),
+        ("\"p.plant\"\n", 1, "the first line is 'plant \"FILE\"', found 'p.plant'"),
+        ("plant states 1 moves 1 goals 1\n", 1, "this is a plant and no table of bands"),
+        ("plant\n", 1, "name of the plant's file is expected, in quotes"),
+        ("plant p.plant\n", 1, "name of the plant's file is expected, in quotes"),
+        ("plant \"\"\n", 1, "name of the plant's file is expected, in quotes"),
+        ("plant \"p.plant\n", 1, "no closing quote"),
+        ("plant \"p.plant\" 3\n", 1, "nothing more is expected on this line, found '3'"),
+        ("\n\nplant \"q.plant\"\n", 3, "./q.plant: cannot be read (No such file or directory)"),
+        ("plant \".\"\n", 1, "./.: cannot be read (Is a directory)"),
+        ("plant \"-\"\n", 1, "./-: cannot be read (No such file or directory)"),
+        ("plant \"bad.plant\"\n", 1, "./bad.plant:2: a line starts with state, arrow, move or goal, found 'x'"),
+        ("plant \"bad.bin\"\n", 1, "./bad.bin: a plant has at least 16 bytes, this file has 3 (planbook refuses"),
+        (TABLE + "plant \"p.plant\"\n", 5, "the plant is named already"),
+        (TABLE + "state 0\n", 5, "a line starts with band, found 'state'"),
+        (TABLE + "\"band\" 3 .. 4 state 0\n", 5, "a line starts with band, found 'band'"),
+        (TABLE + "band\n", 5, "ends where the lower end is expected"),
+        (TABLE + "band 3\n", 5, "ends where '..' is expected"),
+        (TABLE + "band 3 ..\n", 5, "ends where the upper end is expected"),
+        (TABLE + "band 3 .. 4\n", 5, "ends where 'state' is expected"),
+        (TABLE + "band 3 .. 4 state\n", 5, "ends where the state is expected"),
+        (TABLE + "band 3 4 state 0\n", 5, "the lower end is one number, found '3' and '4'; a decimal number has"),
+        (TABLE + "band 3 to 4 state 0\n", 5, "'..' is expected, found 'to'"),
+        (TABLE + "band 3 .. 4 \"a\"\n", 5, "'state' is expected, found the name 'a'"),
+        (TABLE + "band 3 .. 4 0\n", 5, "the upper end is one number, found '4' and '0'"),
+        (TABLE + "band 3,5 .. 4 state 0\n", 5, "the lower end is one number, found '3' and '5'; a decimal number has"),
+        (TABLE + "band 3 .. 4,5 state 0\n", 5, "the upper end is one number, found '4' and '5'; a decimal number has"),
+        (TABLE + "band .. 4 state 0\n", 5, "the lower end is 'open' or a number, found '..'\n"),
+        (TABLE + "band 3..4 state 0\n", 5, "is 'open' or a number, found '3..4'; write a space on each side of '..'"),
+        (TABLE + "band 3.. 4 state 0\n", 5, "is 'open' or a number, found '3..'; write a space on each side of '..'"),
+        (TABLE + "band 3 ..4 state 0\n", 5, "'..' is expected, found '..4'"),
+        (TABLE + "band \"3\" .. 4 state 0\n", 5, "the lower end is expected, found the name '3'"),
+        (TABLE + "band 3 .. 4 state a\n", 5, "the state is a number or a name in quotes, found 'a'"),
+        (TABLE + "band 3 .. 4 state -1\n", 5, "the state is a number or a name in quotes, found '-1'"),
+        (TABLE + "band 3 .. 4 state 1x\n", 5, "the state is a number, found '1x'"),
+        (TABLE + "band 3 .. 4 state 5\n", 5, "the state is 0 to 4, found '5'"),
+        (TABLE + "band 3 .. 4 state 4294967296\n", 5, "the state is 0 to 4, found '4294967296'"),
+        (TABLE + "band 3 .. 4 state \"\"\n", 5, "a name has 1 to 40 printable characters"),
+        (TABLE + "band 3 .. 4 state \"d\"\n", 5, "no state has the name 'd': give a name from the plant's text, or"),
+        (TABLE + "band 3 .. 4 state \"twice\"\n", 5, "states 3 and 4 have the name 'twice': give the number"),
+        (TABLE + "band 3 .. 4 state 0 1\n", 5, "nothing more is expected on this line, found '1'"),
+        (TABLE + "band 3 .. 4 state 0 \"a\"\n", 5, "nothing more is expected on this line, found 'a'"),
+    ]
+
+    NO_NUMBERS = ("nan", "inf", "-inf", "Infinity", "1_0", "0x10", "0x1p3", "1e", "e5", ".", "-", "+-1", "--1", "1.2.3",
+                  "1e5.0", "1d0", "\u0661", "one", "Open")
+
+    def setUp(self) -> None:
+        super().setUp()
+        names = ["a", "b", "c", "twice", "twice"]
+        lines = ["plant states 5 moves 1 goals 1", *(f'state {at} allowed "{name}"' for at, name in enumerate(names))]
+        self.write("p.plant", "\n".join(lines).encode())
+        self.write("bad.plant", b"plant states 1 moves 1 goals 1\nx\n")
+        self.write("bad.bin", b"abc")
+
+    def table(self, text: str, name: str = "a.bands") -> gauge.Table:
+        return gauge.read_table(self.write(name, text.encode()))
+
+    def test_each_error_has_its_line(self) -> None:
+        texts = self.TEXTS + [(TABLE + f"band {word} .. 4 state 0\n", 5, f"is 'open' or a number, found '{word}'")
+                              for word in self.NO_NUMBERS]
+        for text, line, words in texts:
+            with self.subTest(words=words, text=text[-40:]):
+                self.write("bad.bands", text.encode())
+                error = self.fails(2, words, GAUGE_PY, "bad.bands", "0", "0")
+                self.assertTrue(error.startswith(f"bad.bands:{line}: "), error)
+
+    def test_errors_by_way_of_run(self) -> None:
+        for text, line, words in self.TEXTS[::6]:
+            self.write("bad.bands", text.encode())
+            self.fails(2, f"run: bad.bands:{line}: ", RUN, "gauge", "bad.bands", "0", "0")
+            self.fails(2, words, RUN, "gauge", "bad.bands", "0", "0")
+            error = self.fails(2, f"run: standard input:{line}: ", "bash", "-c", '"$0" gauge - 0 0 <bad.bands', RUN)
+            self.assertIn(words.rstrip("\n"), error)
+
+    def test_text_that_is_no_text(self) -> None:
+        for data, words in ((b"#\n\xff\n", "a.bands:2: the text is not UTF-8"),
+                            (b"#\n#\n\0", "a.bands:3: this is no text, it has a zero byte"),
+                            ("plant".encode("utf-16"), "a.bands:1: the text is UTF-16; save it as UTF-8"),
+                            (b"#" * (8 << 20) + b"\n", "the file is longer than any table of bands needs")):
+            self.fails(2, words, RUN, "gauge", self.write("a.bands", data), "0", "0")
+
+    def test_what_is_read(self) -> None:
+        text = "\ufeff# head\r\nplant \"p.plant\" # whose\r\n\r\nband, open .. -1e-3 state \"c\"\r\n" \
+               "band +.5 .. 1. state 0004 # \"x\"\rband 1.0E+2 .. open state 0\n"
+        table = self.table(text)
+        self.assertEqual([(band.line, band.lower.at, band.upper.at, band.state) for band in table.bands],
+                         [(4, None, -0.001, 2), (5, 0.5, 1.0, 4), (6, 100.0, None, 0)])
+        self.assertEqual((table.plant.states, table.plant.state_names[1]), (5, "b"))
+        self.assertEqual(self.table("plant \"p.plant\"").bands, [])  # the library decides how many there are
+
+    def test_numbers_are_the_nearest_floats(self) -> None:
+        pick = random.Random(4)
+        words = ["0.1", "-0.02", "1e-400", "4.9e-324", "2.4703282292062327e-324", "2.4703282292062328e-324", "1e999",
+                 "-1e999", "1.7976931348623157e308", "1.7976931348623159e308", "9007199254740993", "0." + "3" * 400,
+                 "1" + "0" * 400, "-0", "1e-99999999999999999999", "1e99999999999999999999"]
+        words += [f"{pick.choice(['', '-'])}{pick.randrange(10 ** 20)}e{pick.randrange(-345, 300)}" for _ in range(200)]
+        lines = "".join(f"band {word} .. open state 0\n" for word in words)
+        for word, band in zip(words, self.table('plant "p.plant"\n' + lines).bands):
+            read, right = exact(band.lower.at or 0.0), decimal(word)
+            self.assertEqual(read, None if right is None else right, word)
+        self.assertEqual(str(self.table('plant "p.plant"\nband -0 .. open state 0\n').bands[0].lower.at), "-0.0")
+
+    def test_the_plant_beside_the_table(self) -> None:
+        os.mkdir(self.path("in"))
+        table = 'plant "{}"\nband open .. open state 1\n'
+        expected = "state 1  b\ndeviation 1 mm (3 less 2): band open .. open\n"
+        for name, path in (("a.bands", "p.plant"), ("in/a.bands", "../p.plant"), ("in/b.bands", self.path("p.plant"))):
+            self.write(name, table.format(path).encode())
+            self.assertEqual(self.call(RUN, "gauge", name, "3", "2"), (0, expected, ""))
+            self.assertEqual(self.call(RUN, "gauge", self.path(name), "3", "2"), (0, expected, ""))
+        self.write("in/c.bands", table.format("p.plant").encode())
+        self.fails(2, "run: in/c.bands:1: in/p.plant: cannot be read", RUN, "gauge", "in/c.bands", "3", "2")
+        # From standard input it is looked for in the folder where one stands.
+        self.assertEqual(self.call("bash", "-c", '"$0" gauge - 3 2 <in/c.bands', RUN), (0, expected, ""))
+        self.assertEqual(self.call("bash", "-c", '"$0" - 3 2 <in/c.bands', GAUGE_PY), (0, expected, ""))
+        data = plant.to_bytes(plant.read_plant(self.path("p.plant")))
+        for name in ("p.bin", "bytes"):  # they have no names
+            self.write(name, data)
+            self.write("a.bands", table.format(name).encode())
+            self.assertEqual(self.call(RUN, "gauge", "a.bands", "3", "2"), (0, expected.replace("  b", ""), ""))
+        self.write("a.bands", b'plant "p.bin"\nband open .. open state "b"\n')
+        self.fails(2, "a.bands:2: no state has the name 'b'", RUN, "gauge", "a.bands", "3", "2")
+
+    def test_letters_beyond_ascii(self) -> None:
+        self.write("b\u00e4nder.plant", 'plant states 1 moves 1 goals 1\nstate 0 allowed "\u00bd mm"\n'.encode())
+        self.write("a.bands", 'plant "b\u00e4nder.plant"\nband 0 .. open state "\u00bd mm"\n'.encode())
+        for env in ({}, Machine.ASCII):
+            self.assertEqual(self.call(RUN, "gauge", "a.bands", "1", "0", env=env),
+                             (0, "state 0  \u00bd mm\ndeviation 1 mm (1 less 0): band 0 .. open\n", ""))
+
+
+def decimal(word: str) -> Optional[Fraction]:
+    """The float nearest to a decimal number, by integers; nothing where it is infinite."""
+    digits, _, power = word.lower().partition("e")
+    if abs(int(power or "0")) > 5000:
+        return None if int(power) > 0 else Fraction(0)
+    return nearest(Fraction(digits) * Fraction(10) ** int(power or "0"))
+
+
+class Gauge(Case):
+    """What ./run gauge says."""
+
+    def says(self, expected: str, *words: str, env: Optional[Dict[str, str]] = None) -> None:
+        self.assertEqual(self.call(RUN, "gauge", *words, env=env), (0, expected, ""))
+
+    def refuses(self, status: int, error: str, *words: str, env: Optional[Dict[str, str]] = None) -> str:
+        return self.fails(status, error, RUN, "gauge", *words, env=env)
+
+    def table(self, *bands: str) -> str:
+        """A table for a plant of four states with names."""
+        lines = ["plant states 4 moves 1 goals 1", *(f'state {state} allowed "{state} off"' for state in range(4))]
+        self.write("p.plant", "\n".join(lines).encode())
+        self.write("a.bands", "\n".join(['plant "p.plant"', *(f"band {band}" for band in bands)]).encode())
+        return "a.bands"
+
+    def test_the_guide_has_the_answers(self) -> None:
+        with open(os.path.join(TOP, "docs", "USING.md"), encoding="utf-8") as file:
+            guide = file.read()
+        asked = ("examples/gauge-bands.bands 2.013 2", "examples/gauge-bands.bands 0 2",
+                 "examples/gauge-bands.bands 2.05 2")
+        for words in asked:
+            code, out, error = self.call("bash", "-c", f"cd {TOP} && ./run gauge {words}")
+            self.assertEqual((code, error), (0, ""))
+            shown = f"$ ./run gauge {words}\n{out}"
+            self.assertIn("".join(f"    {line}\n" for line in shown.splitlines()), guide)
+        self.says(ON_AIM, BANDS, "2.013", "2")
+        with open(BANDS, encoding="utf-8") as file:
+            table = file.read()
+        self.assertIn("".join(f"    {line}".rstrip() + "\n" for line in table[table.index("plant \""):].splitlines()),
+                      guide)
+
+    def test_the_example(self) -> None:
+        for reading, line in (("1.5", "state 0  far thin"), ("1.94", "state 0  far thin"), ("1.96", "state 1  thin"),
+                              ("1.981", "state 2  on aim"), ("2", "state 2  on aim"), ("2.019", "state 2  on aim"),
+                              ("2.03", "state 3  thick"), ("2.1", "state 4  far thick"), ("99", "state 4  far thick"),
+                              ("1.4", "no state: the deviation lies below all bands"),
+                              ("0", "no state: the deviation lies below all bands")):
+            code, out, error = self.call(RUN, "gauge", BANDS, reading, "2")
+            self.assertEqual((code, error, out.splitlines()[0]), (0, "", line), reading)
+
+    def test_bands_and_gaps(self) -> None:
+        table = self.table("-2 .. -1 state 0", "-1 .. 1 state \"3 off\"", "2 .. 3 state 1")
+        gap = "no state: the deviation lies in a gap between the bands\n"
+        for reading, expected in (
+                ("-2.5", "no state: the deviation lies below all bands\n"
+                 "deviation -2.5 mm (-2.5 less 0): below band -2 .. -1\n"),
+                ("-2", "state 0  0 off\ndeviation -2 mm (-2 less 0): band -2 .. -1\n"),
+                ("-1.0", "state 3  3 off\ndeviation -1 mm (-1.0 less 0): band -1 .. 1\n"),
+                ("-0", "state 3  3 off\ndeviation 0 mm (-0 less 0): band -1 .. 1\n"),
+                ("1", gap + "deviation 1 mm (1 less 0): between band -1 .. 1 and band 2 .. 3\n"),
+                ("+1.5", gap + "deviation 1.5 mm (+1.5 less 0): between band -1 .. 1 and band 2 .. 3\n"),
+                ("2", "state 1  1 off\ndeviation 2 mm (2 less 0): band 2 .. 3\n"),
+                ("3e0", "no state: the deviation lies above all bands\n"
+                 "deviation 3 mm (3e0 less 0): above band 2 .. 3\n")):
+            self.says(expected, table, reading, "0")
+
+    def test_bands_with_one_state(self) -> None:
+        table = self.table("-2 .. -1 state 1", "-1 .. 1 state 0", "1 .. 2 state 1")
+        for reading, band in (("-1.5", "-2 .. -1"), ("1.5", "1 .. 2")):
+            self.says(f"state 1  1 off\ndeviation {reading} mm ({reading} less 0): band {band}\n", table, reading, "0")
+
+    def test_the_most_bands(self) -> None:
+        bands = [f"{at} .. {at + 1} state {at % 4}" for at in range(64)]
+        self.says("state 3  3 off\ndeviation 63.5 mm (63.5 less 0): band 63 .. 64\n", self.table(*bands), "63.5", "0")
+        for more, count in ((["64 .. open state 0"], 65), (bands[:2], 66)):
+            self.refuses(1, f"; a.bands:66: this is band number 65 of {count}\n", self.table(*bands, *more), "0", "0")
+
+    def test_the_deviation_is_rounded_once(self) -> None:
+        # 0.3 less 0.1 is 0.19999999999999998, and 4.1 less 0.1 is 3.9999999999999996.
+        for ends, typed, deviation in (("0.2", ("0.3", "0.1"), "0.19999999999999998"),
+                                       ("4", ("4.1", "0.1"), "3.9999999999999996")):
+            table = self.table(f"0 .. {ends} state 1", f"{ends} .. open state 2")
+            self.says(f"state 1  1 off\ndeviation {deviation} mm ({typed[0]} less {typed[1]}): band 0 .. {ends}\n",
+                      table, *typed)
+        # All digits are shown only where fewer would mean another place.
+        self.says("state 1  1 off\ndeviation 0.2 mm (0.3 less 0.1): band 0 .. 1\n", self.table("0 .. 1 state 1"), "0.3",
+                  "0.1")
+
+    def test_numbers_that_are_no_thickness(self) -> None:
+        table = self.table("open .. 0 state 0", "0 .. open state 1")
+        longer = "2." + "0" * 400 + "1"
+        for reading, aim, line in (
+                ("1e300", "2", "deviation 1e+300 mm (1e300 less 2): band 0 .. open"),
+                ("1e-7", "0", "deviation 1e-07 mm (1e-7 less 0): band 0 .. open"),
+                ("-1e-7", "0", "deviation -1e-07 mm (-1e-7 less 0): band open .. 0"),
+                ("5e-324", "0", "deviation 5e-324 mm (5e-324 less 0): band 0 .. open"),
+                ("1e-400", "0", "deviation 0 mm (1e-400 less 0): band 0 .. open"),
+                ("1234567", "0", "deviation 1234567.0 mm (1234567 less 0): band 0 .. open"),
+                (longer, "1", "deviation 1 mm (2.0 less 1): band 0 .. open"),
+                ("123456.5", "0", "deviation 123456.5 mm (123456.5 less 0): band 0 .. open")):
+            code, out, error = self.call(RUN, "gauge", table, reading, aim)
+            self.assertEqual((code, error, out.splitlines()[1]), (0, "", line))
+
+    def test_tables_that_are_refused(self) -> None:
+        for bands, line, words in (
+                ([], 0, "the table has no band"),
+                (["0 .. 1e999 state 0"], 2, "the upper end is too large for a 64-bit float"),
+                (["-1e999 .. 0 state 0"], 2, "the lower end is too large for a 64-bit float"),
+                (["1 .. 1 state 0"], 2, "the band is empty: 1 is not above 1"),
+                (["0 .. 1 state 0", "3 .. 2 state 1"], 3, "the band is empty: 2 is not above 3"),
+                (["0 .. -0 state 0"], 2, "the band is empty: -0 is not above 0"),
+                (["0 .. 1e-400 state 0"], 2, "the band is empty: 1e-400 is not above 0"),
+                (["0 .. 1 state 0", "-2 .. -1 state 1"], 3, "out of order: it lies below that of line 2"),
+                (["0 .. 1 state 0", "-2 .. 0 state 1"], 3, "out of order: it lies below that of line 2"),
+                (["0 .. 1 state 0", "0 .. 1 state 1"], 3, "the band overlaps that of line 2: 0 is below 1"),
+                (["0 .. 2 state 0", "3 .. 5 state 1", "4 .. 6 state 2"], 4, "overlaps that of line 3: 4 is below 5"),
+                (["open .. 2 state 0", "0 .. 1 state 1"], 3, "the band overlaps that of line 2: 0 is below 2"),
+                (["0 .. open state 0", "1 .. 2 state 1"], 3, "no band can follow that of line 2, which is open above"),
+                (["0 .. 1 state 0", "open .. 3 state 1"], 3, "only the first band can be open below"),
+                (["open .. 1 state 0", "open .. 0 state 1"], 3, "only the first band can be open below")):
+            place = f"; a.bands:{line}: " if line else "; a.bands: "
+            error = self.refuses(1, words + "\n", self.table(*bands), "1e999", "0")  # 11 comes before 12
+            self.assertTrue(error.startswith("run: refused 11: the table of bands is not in order: "), error)
+            self.assertIn(place, error)
+
+    def test_readings_that_are_refused(self) -> None:
+        table = self.table("open .. open state 0")
+        meaning = "refused 12: the reading, the aim or the deviation is not finite: check both numbers, in millimetres"
+        for reading, aim, what in (("1e999", "2", "reading"), ("-1e999", "2", "reading"), ("2", "1e999", "aim"),
+                                   ("1e999", "1e999", "reading"), ("1.7e308", "-1.7e308", "deviation"),
+                                   ("-1.7e308", "1.7e308", "deviation")):
+            self.refuses(1, f"{meaning}; the {what} is too large\n", table, reading, aim)
+        self.says("state 0  0 off\ndeviation 1.7e+308 mm (1.7e308 less 0): band open .. open\n", table, "1.7e308", "0")
+
+    def test_bad_words_and_files(self) -> None:
+        table = self.table("open .. open state 0")
+        for words in ([], [table], [table, "1"], [table, "1", "2", "3"]):
+            self.refuses(2, "gauge needs a table of bands, the reading and the aim", *words)
+        for word in (*Bands.NO_NUMBERS, "", " 1", "1 ", "2,013", "1\n", "1\n2", "open"):
+            for words in ([word, "1"], ["1", word]):
+                error = self.refuses(2, "is no number of millimetres: write it as in 2.013, with a point", table,
+                                     *words)
+                if len(word) > 2 and word.isprintable():
+                    self.assertIn(f"'{word}' is no number", error)
+                self.fails(2, "is no number of millimetres", GAUGE_PY, table, *words)
+        self.refuses(2, "none.bands: there is no such file", "none.bands", "1", "1")
+        self.refuses(2, "is not a file", self.folder, "1", "1")
+        self.refuses(2, "p.plant:1: this is a plant and no table of bands", "p.plant", "1", "1")
+        self.fails(2, "give one reading and one aim, and not 3 numbers", GAUGE_PY, table, "1", "1", "1")
+        self.fails(2, "none.bands: cannot be read", GAUGE_PY, "none.bands", "1", "1")
+        # The numbers are looked at first.
+        self.refuses(2, "'x' is no number", "none.bands", "x", "1")
+        self.fails(3, "standard input could not be read", "bash", "-c", '"$0" gauge - 1 1 <&-', RUN)
+
+    def test_a_plant_that_is_called_gauge(self) -> None:
+        with open(self.example("strip"), "rb") as file:
+            self.write("gauge", file.read())
+        self.refuses(2, "(a plant file of this name is ./gauge)", "7")
+        self.assertEqual(self.call(RUN, "./gauge", "7", "4"), (0, STRIP_LISTING, ""))
+
+    def test_neither_python_nor_library(self) -> None:
+        call = [shutil.which("bash") or "", RUN, "gauge", BANDS, "2", "2"]
+        self.fails(3, "python3 is needed for the gauge, and is not on the PATH", *call, env={"PATH": self.few_tools()})
+        self.program("few/python3", f'case "$*" in *ctypes*) exit 1 ;; esac; exec {sys.executable} "$@"')
+        self.fails(3, "the one on the PATH cannot run (3.7 or newer is needed, with ctypes)", *call,
+                   env={"PATH": self.path("few")})
+        for name in ("none", "."):
+            env = {"PLANBOOK_LIB": self.path(name)}
+            self.refuses(3, f"PLANBOOK_LIB names no library: {self.path(name)}", BANDS, "2", "2", env=env)
+            self.fails(3, "libplanbook.so is not there", GAUGE_PY, BANDS, "2", "2", env=env)
+        env = {"PLANBOOK_LIB": self.write("a.so", b"\x7fELF\0\0")}
+        self.refuses(3, "a.so: cannot be loaded as a library", BANDS, "2", "2", env=env)
+        # No planner is needed, and a path may be one from here.
+        shutil.copy(os.environ["PLANBOOK_LIB"], self.path("b.so"))
+        self.says(ON_AIM, BANDS, "2.013", "2", env={"PLANBOOK_LIB": "b.so", "PLANBOOK_BIN": self.path("none")})
+
+    def library(self, answer: str) -> Dict[str, str]:
+        """A stand-in for the library that answers this, in C."""
+        cc = shutil.which("cc")
+        if cc is None:
+            self.skipTest("there is no C compiler")
+        self.write("a.c", f"""#include <stddef.h>
+#include <stdint.h>
+typedef struct {{ uint32_t number, found, state; }} planbook_place;
+planbook_place planbook_gauge(const uint8_t *kinds, size_t kinds_len, const double *ends, size_t ends_len,
+                              const uint32_t *of, size_t n, uint32_t states, double reading, double aim) {{
+    double d = reading - aim;
+    (void)d; (void)kinds; (void)ends; (void)of; (void)kinds_len; (void)ends_len; (void)n; (void)states;
+    {answer}
+}}
+""".encode())
+        subprocess.run([cc, "-shared", "-fPIC", "-o", self.path("a.so"), self.path("a.c")], check=True)
+        return {"PLANBOOK_LIB": self.path("a.so")}
+
+    def test_a_library_that_says_something_else(self) -> None:
+        table = self.table("-1 .. 1 state 2", "1 .. open state 1")
+        holds = "(n == 1 && (!kinds[0] || ends[0] <= d) && (!kinds[1] || d < ends[1]))"
+        right = f"return (planbook_place){{ 0, n > 1 || {holds}, n > 1 ? 2 : 0 }};"
+        expected = "state 2  2 off\ndeviation 0.5 mm (0.5 less 0): band -1 .. 1\n"
+        self.says(expected, table, "0.5", "0", env=self.library(right))
+        for answer, status, words in (
+                ("return (planbook_place){ 7, 0, 0 };", 1, "refused 7: this number is not one that planbook gives"),
+                ("return (planbook_place){ 0, 0, 0 };", 3, "add up: a deviation lies in no band and in no gap"),
+                ("return (planbook_place){ 0, 1, 2 };", 3, "does not add up: its answers contradict each other"),
+                (right.replace("? 2", "? 1"), 3, "does not add up: its answers contradict each other"),
+                (right.replace("? 2", "? 9"), 3, "does not add up: its answers contradict each other"),
+                (right.replace("n > 1 ||", ""), 3, "does not add up: its answers contradict each other"),
+                ("return *(planbook_place *)0;", 3, "python3 could not run tools/gauge.py (status 139)")):
+            self.refuses(status, words, table, "0.5", "0", env=self.library(answer))
+        env = self.library(right + "\n}\nvoid planbook_other(void) {")
+        subprocess.run(["cc", "-shared", "-fPIC", "-Dplanbook_gauge=planbook_other_gauge", "-o", self.path("a.so"),
+                        self.path("a.c")], check=True)
+        self.refuses(3, "a.so: has no planbook_gauge; it is another library, or an old one", table, "0.5", "0", env=env)
+
+
+# Request (xi) once more, in exact numbers. Floats are taken apart by their bits and never subtracted or compared.
+
+BITS, FLOAT = struct.Struct("<Q"), struct.Struct("<d")
+Answer = Tuple[int, int, int]
+Edge = Tuple[int, Fraction]  # an end among all numbers: -1 for open below, 0 and the number, 1 for open above
+
+
+def exact(number: float) -> Optional[Fraction]:
+    """The number that a float stands for; nothing if it is infinite or undefined."""
+    bits, = BITS.unpack(FLOAT.pack(number))
+    power, digits = bits >> 52 & 0x7ff, bits & (1 << 52) - 1
+    if power == 0x7ff:
+        return None
+    digits, power = (digits, 1) if power == 0 else (digits | 1 << 52, power)
+    whole = digits << power - 1  # of 2 ** -1074
+    return Fraction(-whole if bits >> 63 else whole, 1 << 1074)
+
+
+def nearest(number: Fraction, up: Optional[Callable[[int, int, bool], bool]] = None) -> Optional[Fraction]:
+    """The float nearest to a number, of two equally near the one whose last digit is 0; nothing if it is infinite. `up`
+    is another rule: it gets twice the rest, what it is a rest of, and whether the digits are odd."""
+    size, over = abs(number.numerator), number.denominator
+    place = max(size.bit_length() - over.bit_length() - 53, -1074)  # of the last digit, or one below
+    if (size << max(-place, 0)) // (over << max(place, 0)) >= 1 << 53:
+        place += 1
+    size, over = size << max(-place, 0), over << max(place, 0)
+    digits, rest = divmod(size, over)
+    odd = digits % 2 == 1
+    digits += up(2 * rest, over, odd) if up else 2 * rest > over or (2 * rest == over and odd)
+    found = Fraction(digits) * (Fraction(2) ** place)
+    if found >= Fraction(2) ** 1024:
+        return None
+    return -found if number < 0 else found
+
+
+@dataclass
+class Asked:
+    """What planbook_gauge is given."""
+
+    kinds: List[int]
+    ends: List[float]
+    band_states: List[int]
+    states: int
+    reading: float
+    aim: float
+
+
+class Solver:
+    """The answer of request (xi), from its words."""
+
+    def answer(self, asked: Asked) -> Answer:
+        refusals = self.refusals(asked)
+        if refusals:
+            return refusals[0], 0, 0
+        held = [band for band in self.bands(asked) if self.holds(band, asked)]
+        return (0, 1, self.chosen(held)[2]) if held else (0, 0, 0)
+
+    def refusals(self, asked: Asked) -> List[int]:
+        return [11] * (not self.in_order(asked)) + [12] * (not self.readable(asked))
+
+    def bands(self, asked: Asked) -> List[Tuple[Edge, Edge, int]]:
+        edges = [self.edge(kind, end, 2 * (at % 2) - 1) for at, (kind, end) in enumerate(zip(asked.kinds, asked.ends))]
+        return list(zip(edges[0::2], edges[1::2], asked.band_states))
+
+    def edge(self, kind: int, end: float, side: int) -> Edge:
+        return (side, Fraction(0)) if kind == 0 else (0, exact(end) or Fraction(0))
+
+    def in_order(self, asked: Asked) -> bool:
+        count = len(asked.band_states)
+        if not 1 <= count <= self.most or len(asked.kinds) != 2 * count or len(asked.ends) != 2 * count:
+            return False
+        if any(kind > 1 or kind == 1 and not self.end_ok(end) for kind, end in zip(asked.kinds, asked.ends)):
+            return False
+        bands = self.bands(asked)
+        rising = all(self.rises(one[1], other[0]) for at, other in enumerate(bands) for one in bands[:at])
+        return rising and all(self.some(lower, upper) for lower, upper, _ in bands) and \
+            all(self.state_ok(state, asked.states) for state in asked.band_states)
+
+    most = 64
+
+    def end_ok(self, end: float) -> bool:
+        return exact(end) is not None
+
+    def rises(self, upper: Edge, lower: Edge) -> bool:
+        return upper <= lower
+
+    def some(self, lower: Edge, upper: Edge) -> bool:
+        return lower < upper
+
+    def state_ok(self, state: int, states: int) -> bool:
+        return state < states
+
+    def readable(self, asked: Asked) -> bool:
+        return self.deviation(asked) is not None
+
+    def deviation(self, asked: Asked) -> Optional[Fraction]:
+        reading, aim = exact(asked.reading), exact(asked.aim)
+        return None if reading is None or aim is None else self.rounded(reading - aim)
+
+    def rounded(self, difference: Fraction) -> Optional[Fraction]:
+        return nearest(difference)
+
+    def holds(self, band: Tuple[Edge, Edge, int], asked: Asked) -> bool:
+        found = self.deviation(asked)
+        return found is not None and self.within(band[0], (0, found), band[1])
+
+    def within(self, lower: Edge, deviation: Edge, upper: Edge) -> bool:
+        return lower <= deviation < upper
+
+    def chosen(self, held: List[Tuple[Edge, Edge, int]]) -> Tuple[Edge, Edge, int]:
+        only, = held
+        return only
+
+
+class UpperIncluded(Solver):
+    def within(self, lower: Edge, deviation: Edge, upper: Edge) -> bool:
+        return lower <= deviation <= upper
+
+    def chosen(self, held: List[Tuple[Edge, Edge, int]]) -> Tuple[Edge, Edge, int]:
+        return held[0]
+
+
+class LastThatFits(UpperIncluded):
+    """Right where bands touch, and wrong at the upper end of one that has a gap after it."""
+
+    def chosen(self, held: List[Tuple[Edge, Edge, int]]) -> Tuple[Edge, Edge, int]:
+        return held[-1]
+
+
+class UpperNotLookedAt(LastThatFits):
+    def within(self, lower: Edge, deviation: Edge, upper: Edge) -> bool:
+        return lower <= deviation
+
+
+class LowerExcluded(Solver):
+    def within(self, lower: Edge, deviation: Edge, upper: Edge) -> bool:
+        return lower < deviation < upper
+
+
+class TwelveFirst(Solver):
+    def refusals(self, asked: Asked) -> List[int]:
+        return super().refusals(asked)[::-1]
+
+
+class ReadingAgainstAimAndEnd(Solver):
+    def holds(self, band: Tuple[Edge, Edge, int], asked: Asked) -> bool:
+        lower, upper = (edge if edge[0] else self.moved(edge[1] + (exact(asked.aim) or 0)) for edge in band[:2])
+        return lower <= (0, exact(asked.reading) or Fraction(0)) < upper
+
+    def moved(self, end: Fraction) -> Edge:
+        found = nearest(end)
+        return (0, found) if found is not None else (1 if end > 0 else -1, Fraction(0))
+
+    def chosen(self, held: List[Tuple[Edge, Edge, int]]) -> Tuple[Edge, Edge, int]:
+        return held[0]
+
+
+class NotRounded(Solver):
+    def rounded(self, difference: Fraction) -> Optional[Fraction]:
+        return None if nearest(difference) is None else difference
+
+
+class CutOff(Solver):
+    def rounded(self, difference: Fraction) -> Optional[Fraction]:
+        return None if nearest(difference) is None else nearest(difference, lambda rest, over, odd: False)
+
+
+class TiesAway(Solver):
+    def rounded(self, difference: Fraction) -> Optional[Fraction]:
+        return None if nearest(difference) is None else nearest(difference, lambda rest, over, odd: rest >= over)
+
+
+class DeviationNotLookedAt(Solver):
+    """Only reading and aim are refused with 12; a deviation that is too large is above or below every end."""
+
+    def readable(self, asked: Asked) -> bool:
+        return exact(asked.reading) is not None and exact(asked.aim) is not None
+
+    def holds(self, band: Tuple[Edge, Edge, int], asked: Asked) -> bool:
+        found = self.deviation(asked)
+        above = (exact(asked.reading) or 0) > 0
+        return self.within(band[0], (0, found if found is not None else Fraction(2 if above else -2) ** 1025), band[1])
+
+
+class TouchingRefused(Solver):
+    def rises(self, upper: Edge, lower: Edge) -> bool:
+        return upper < lower
+
+
+class OrderNotLookedAt(Solver):
+    def rises(self, upper: Edge, lower: Edge) -> bool:
+        return True
+
+    def chosen(self, held: List[Tuple[Edge, Edge, int]]) -> Tuple[Edge, Edge, int]:
+        return held[0]
+
+
+class EmptyTaken(Solver):
+    def some(self, lower: Edge, upper: Edge) -> bool:
+        return lower <= upper
+
+
+class UndefinedTaken(Solver):
+    """An undefined end passes, as it does where the test is that no end is too large."""
+
+    def end_ok(self, end: float) -> bool:
+        return end != end or super().end_ok(end)
+
+
+class StateAtSTaken(Solver):
+    def state_ok(self, state: int, states: int) -> bool:
+        return state <= states
+
+
+class SixtyThree(Solver):
+    most = 63
+
+
+class SixtyFive(Solver):
+    most = 65
+
+
+WRONG = (UpperIncluded, LastThatFits, UpperNotLookedAt, LowerExcluded, TwelveFirst, ReadingAgainstAimAndEnd, NotRounded,
+         CutOff, TiesAway, DeviationNotLookedAt, TouchingRefused, OrderNotLookedAt, EmptyTaken, UndefinedTaken,
+         StateAtSTaken, SixtyThree, SixtyFive)
+
+NAN, INFINITE = float("nan"), float("inf")
+LARGEST, TINIEST, LEAST_NORMAL = 1.7976931348623157e308, 5e-324, 2.2250738585072014e-308
+
+
+def beside(number: float, steps: int) -> float:
+    """The float so many steps above a finite one, by its bits; both zeros are one step from the tiniest."""
+    bits, = BITS.unpack(FLOAT.pack(number))
+    place = (bits & (1 << 63) - 1) * (-1 if bits >> 63 else 1) + steps
+    place = max(min(place, 0x7ff << 52), -(0x7ff << 52))
+    return FLOAT.unpack(BITS.pack(abs(place) | (1 << 63 if place < 0 else 0)))[0]
+
+
+def some_number(pick: random.Random) -> float:
+    """A finite float: one of a mill, or of any size, down to the least and up to the largest, or a zero."""
+    sort = pick.randrange(10)
+    if sort < 5:
+        return beside(pick.randrange(-200, 200) / pick.choice([10, 100, 1000]), pick.choice([0, 0, 0, -1, 1]))
+    if sort == 5:
+        return pick.choice([0.0, -0.0, 1.0, 0.1, 0.2, 0.3, 4.1, 4.0, -1.0, 2.0 ** 53, 1e16])
+    if sort == 6:
+        return beside(0.0, pick.choice([1, -1]) * pick.choice([1, 2, 3, pick.randrange(1 << 52)]))
+    if sort == 7:
+        edge = pick.choice([LARGEST, LEAST_NORMAL, TINIEST, 2.0 ** 1023])
+        return pick.choice([1, -1]) * beside(edge, -pick.randrange(3))
+    found = FLOAT.unpack(BITS.pack(pick.getrandbits(64)))[0]
+    return found if exact(found) is not None else 0.5
+
+
+def some_junk(pick: random.Random) -> float:
+    return pick.choice([NAN, -NAN, INFINITE, -INFINITE, some_number(pick)])
+
+
+def good_table(pick: random.Random) -> Asked:
+    """A table in order, with bands that touch or have gaps between them; outer ends may be open."""
+    count = pick.choice([1, 1, 2, 2, 3, 3, 4, 5, 6, 63, 64, 65] if pick.random() < 0.1 else [1, 1, 2, 2, 3, 4])
+    numbers: Dict[Fraction, float] = {}
+    start = some_number(pick)
+    close = pick.random() < 0.3  # ends that are neighbours, or nearly
+    while len(numbers) < 2 * count:
+        number = beside(start, pick.randrange(-3 * count, 3 * count)) if close else some_number(pick)
+        value = exact(number)
+        if value is not None:
+            numbers.setdefault(value, number)
+    ends = [numbers[value] for value in sorted(numbers)]
+    for at in range(2, len(ends), 2):
+        ends[at] = ends[at - 1] if pick.random() < 0.5 else ends[at]
+    kinds = [1] * len(ends)
+    for at in (0, -1):
+        if pick.random() < 0.35:
+            kinds[at], ends[at] = 0, some_junk(pick)
+    states = pick.choice([1, 4, 6, 1024, (1 << 32) - 1])
+    asked = [pick.choice([0, states - 1, pick.randrange(states)]) for _ in range(count)]
+    return Asked(kinds, ends, asked, states, 0.0, 0.0)
+
+
+def spoil(pick: random.Random, asked: Asked) -> None:
+    """One thing in a table is made wrong, or may be."""
+    at, band = pick.randrange(len(asked.ends)), pick.randrange(len(asked.band_states))
+    sort = pick.randrange(12)
+    if sort == 0:
+        asked.kinds[at] = pick.choice([2, 3, 128, 255])
+    elif sort in (1, 2):
+        asked.kinds[at], asked.ends[at] = 1, pick.choice([NAN, INFINITE, -INFINITE])
+    elif sort == 3:
+        asked.kinds[at] = 0
+    elif sort in (4, 5):
+        asked.ends[at] = beside(asked.ends[at - 1], pick.choice([-1, 0, 1])) if at and asked.kinds[at - 1] else 0.0
+    elif sort == 6:
+        other = pick.randrange(len(asked.band_states))
+        for items, width in ((asked.kinds, 2), (asked.ends, 2), (asked.band_states, 1)):
+            one, two = slice(width * band, width * band + width), slice(width * other, width * other + width)
+            items[one], items[two] = items[two], items[one]
+    elif sort == 7:
+        asked.band_states[band] = pick.choice([asked.states, min(asked.states + 1, (1 << 32) - 1), (1 << 32) - 1])
+    elif sort == 8:
+        asked.states = pick.choice([0, max(asked.band_states), max(asked.band_states) // 2])
+    elif sort == 9:
+        asked.kinds[2 * band:2 * band + 2], asked.ends[2 * band:2 * band + 2] = [1, 1], pick.choice(
+            [[0.0, -0.0], [-0.0, 0.0], [1.0, 1.0], [1.0, beside(1.0, -1)]])
+    elif sort == 10:
+        items = pick.choice([asked.kinds, asked.ends, asked.band_states])
+        items.append(items[-1]) if pick.random() < 0.5 else items.pop()
+    else:
+        asked.kinds, asked.ends, asked.band_states = [], [], []
+
+
+def read_near(pick: random.Random, asked: Asked) -> None:
+    """A reading and an aim whose difference is near an end of the table, or between two floats there, or anywhere."""
+    ends = [end for end in asked.ends if exact(end) is not None] or [0.0]
+    end, sort = pick.choice(ends), pick.randrange(10)
+    asked.reading, asked.aim = some_number(pick), some_number(pick)
+    if sort < 3:
+        asked.reading, asked.aim = beside(end, pick.choice([-1, 0, 0, 1])), pick.choice([0.0, -0.0, TINIEST, -TINIEST])
+    elif sort < 7:
+        asked.reading = beside(float(nearest((exact(asked.aim) or Fraction(0)) + (exact(end) or 0)) or 0),
+                               pick.choice([-2, -1, 0, 0, 0, 1, 2]))
+    elif sort == 7:  # half a step off, or a little more or less
+        asked.reading = beside(end, pick.choice([-1, 0, 1]))
+        step = abs((exact(beside(asked.reading, 1)) or Fraction(0)) - (exact(asked.reading) or 0)) / 2
+        asked.aim = beside(float(step), pick.choice([-1, 0, 0, 0, 1])) * pick.choice([1, -1])
+    elif sort == 8:
+        asked.reading, asked.aim = (pick.choice([some_junk(pick), LARGEST, -LARGEST, some_number(pick)]) for _ in "ra")
+
+
+def case_of(seed: int) -> Asked:
+    pick = random.Random(seed)
+    asked = good_table(pick)
+    read_near(pick, asked)
+    if pick.random() < 0.3:
+        spoil(pick, asked)
+    return asked
+
+
+class Placed(unittest.TestCase):
+    """Request (xi): the library's answers against a solver in exact numbers, and against wrong ones."""
+
+    CASES = 20000
+    answers: List[Tuple[Asked, Answer]] = []
+
+    @classmethod
+    def setUpClass(cls) -> None:
+        library = gauge.Library()
+        for seed in range(cls.CASES):
+            asked = case_of(seed)
+            cls.answers.append((asked, library.place(asked.kinds, asked.ends, asked.band_states, asked.states,
+                                                     asked.reading, asked.aim)))
+
+    def test_the_library_answers_as_the_request_says(self) -> None:
+        seen: Counter = Counter()
+        for asked, answer in self.answers:
+            self.assertEqual(answer, Solver().answer(asked), asked)
+            refusals = Solver().refusals(asked)
+            seen.update([answer[:2], *(("both",) if len(refusals) == 2 else ())])
+            if answer[:2] != (11, 0):
+                seen.update(self.sorts(asked))
+        few = {name for name, count in seen.items() if count < 100}
+        self.assertEqual((few, len(seen)), (set(), 14), seen)
+
+    def sorts(self, asked: Asked) -> List[str]:
+        """What is of note in a table in order and its reading."""
+        solver, found = Solver(), Solver().deviation(asked)
+        edges = [edge[1] for band in solver.bands(asked) for edge in band[:2] if edge[0] == 0]
+        difference = (exact(asked.reading) or Fraction(0)) - (exact(asked.aim) or 0)
+        return [name for name, there in (
+            ("open", 0 in asked.kinds), ("touching", any(one == two for one, two in zip(edges, edges[1:]))),
+            ("at an end", found in edges), ("rounded onto an end", found in edges and found != difference),
+            ("subnormal", found is not None and 0 < abs(found) < exact(LEAST_NORMAL)),
+            ("a zero with a sign", FLOAT.pack(-0.0) in (FLOAT.pack(asked.reading), *map(FLOAT.pack, asked.ends))),
+            ("huge", found is not None and abs(found) > 2 ** 1000), ("many", len(asked.band_states) >= 63),
+            ("deviation alone", found is None and None not in (exact(asked.reading), exact(asked.aim)))) if there]
+
+    def test_wrong_solvers_are_found_out(self) -> None:
+        for wrong in WRONG:
+            found = next((asked for asked, answer in self.answers if wrong().answer(asked) != answer), None)
+            self.assertIsNotNone(found, wrong.__name__)
+
+    def test_traps(self) -> None:
+        library = gauge.Library()
+        for kinds, ends, states, reading, aim, answer in (
+                ([1, 1], [0.0, 1.0], [3], 0.5, 0.0, (0, 1, 3)), ([1, 1], [0.0, 1.0], [3], 0.0, 0.0, (0, 1, 3)),
+                ([1, 1], [0.0, 1.0], [3], -0.0, 0.0, (0, 1, 3)), ([1, 1], [0.0, 1.0], [3], 1.0, 0.0, (0, 0, 0)),
+                ([1, 1], [0.0, 1.0], [4], 0.5, 0.0, (11, 0, 0)), ([1, 1], [0.0, 1.0], [4], NAN, 0.0, (11, 0, 0)),
+                ([1, 1], [0.0, 1.0], [3], NAN, 0.0, (12, 0, 0)), ([1, 1], [0.0, 1.0], [3], 0.0, INFINITE, (12, 0, 0)),
+                ([1, 1], [0.0, 1.0], [3], LARGEST, -LARGEST, (12, 0, 0)),
+                ([1, 1], [0.2, 0.3], [3], 0.3, 0.1, (0, 0, 0)), ([1, 0], [4.0, 0.0], [3], 4.1, 0.1, (0, 0, 0)),
+                ([1, 1], [0.0, -0.0], [3], 0.0, 0.0, (11, 0, 0)),
+                ([1, 1], [NAN, 1.0], [3], 0.5, 0.0, (11, 0, 0)), ([0, 1], [NAN, 1.0], [3], 0.5, 0.0, (0, 1, 3)),
+                ([0, 0], [NAN, INFINITE], [3], -1e300, 0.0, (0, 1, 3)), ([2, 1], [0.0, 1.0], [3], 0.5, 0.0, (11, 0, 0)),
+                ([], [], [], 0.5, 0.0, (11, 0, 0)), ([1, 1], [0.0], [3], 0.5, 0.0, (11, 0, 0)),
+                ([0, 1], [0.0, -LARGEST], [3], 0.0, 0.0, (0, 0, 0)),
+                ([0, 1, 1, 0], [0.0, 1.0, 1.0, 0.0], [1, 2], 1.0, 0.0, (0, 1, 2)),
+                ([0, 1, 1, 0], [0.0, 1.0, beside(1.0, -1), 0.0], [1, 2], 1.0, 0.0, (11, 0, 0))):
+            asked = Asked(kinds, ends, states, 4, reading, aim)
+            self.assertEqual(library.place(kinds, ends, states, 4, reading, aim), answer, asked)
+            self.assertEqual(Solver().answer(asked), answer, asked)
+
+    def test_rounding_by_integers_is_that_of_the_machine(self) -> None:
+        pick = random.Random(3)
+        for _ in range(3000):
+            one, two = some_number(pick), some_number(pick)
+            self.assertEqual(nearest((exact(one) or Fraction(0)) - (exact(two) or 0)), exact(one - two), (one, two))
+
+
 class Commands(Case):
-    """picture.py, cost.py, gain.py and reach.py by themselves, without ./run."""
+    """picture.py, cost.py, gain.py, reach.py and gauge.py by themselves, without ./run."""
 
     def test_help_and_usage(self) -> None:
         for path, call in ((PICTURE_PY, "picture.py OUT.html PLANT MASK [MASK...]"),
                            (COST_PY, "cost.py PLANT MASK [MASK...] MASK"),
-                           (GAIN_PY, "gain.py PLANT MASK [MASK...] MASK"), (REACH_PY, "reach.py STATE PLANT MASK")):
+                           (GAIN_PY, "gain.py PLANT MASK [MASK...] MASK"), (REACH_PY, "reach.py STATE PLANT MASK"),
+                           (GAUGE_PY, "gauge.py BANDS READING AIM")):
             for word in ("-h", "--help"):
                 code, out, error = self.call(path, word)
                 self.assertEqual((code, error, out.splitlines()[2]), (0, "", "    " + call))

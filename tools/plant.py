@@ -16,7 +16,7 @@ import re
 import struct
 import sys
 from dataclasses import dataclass, field
-from typing import Callable, Dict, List, NoReturn, Optional, Tuple
+from typing import Callable, Dict, Iterator, List, NoReturn, Optional, Tuple
 
 from console import Failure, MachineError, complain, run, say, say_bytes
 
@@ -67,6 +67,16 @@ class Plant:
 
     def goals_of(self, state: int) -> List[int]:
         return [goal for goal in range(self.goals) if self.labels[state] >> (1 + goal) & 1]
+
+    def state_named(self, name: str) -> int:
+        """The one state that has this name."""
+        states = [state for state, other in sorted(self.state_names.items()) if other == name]
+        if not states:
+            raise PlantError(f"no state has the name {shown(name)}: give a name from the plant's text, or a number "
+                             f"from 0 to {self.states - 1}")
+        if len(states) > 1:
+            raise PlantError(f"states {states[0]} and {states[1]} have the name {shown(name)}: give the number")
+        return states[0]
 
 
 # The text form.
@@ -157,10 +167,8 @@ class TextReader:
         self.arrow_lines: Dict[Arrow, int] = {}
 
     def read(self, text: str) -> Plant:
-        for number, content in enumerate(re.split(r"\r\n|\n|\r", text), 1):
-            line = Line(self.path, number, content)
-            if line.words:
-                self.line(line)
+        for line in lines_of(self.path, text):
+            self.line(line)
         if self.plant is None:
             raise PlantError(f"{self.path}:1: the file has no line 'plant states S moves U goals N'")
         return self.finished(self.plant)
@@ -274,17 +282,29 @@ class TextReader:
 
 def from_text(path: str, data: bytes) -> Plant:
     """The plant of a text file's content."""
+    return TextReader(path).read(decoded(path, data))
+
+
+def decoded(path: str, data: bytes) -> str:
+    """The text of a file's content, which is UTF-8."""
     if is_utf16(data):
         raise PlantError(f"{path}:1: the text is UTF-16; save it as UTF-8")
     if b"\0" in data:
         number = data.count(b"\n", 0, data.index(b"\0")) + 1
         raise PlantError(f"{path}:{number}: this is no text, it has a zero byte (is it a plant's bytes?)")
     try:
-        text = data.decode("utf-8-sig")
+        return data.decode("utf-8-sig")
     except UnicodeDecodeError as error:
         number = data.count(b"\n", 0, error.start) + 1
         raise PlantError(f"{path}:{number}: the text is not UTF-8") from None
-    return TextReader(path).read(text)
+
+
+def lines_of(path: str, text: str) -> Iterator[Line]:
+    """The lines of a text that have words."""
+    for number, content in enumerate(re.split(r"\r\n|\n|\r", text), 1):
+        line = Line(path, number, content)
+        if line.words:
+            yield line
 
 
 def to_text(plant: Plant) -> str:
@@ -402,14 +422,14 @@ def is_binary(path: str, data: bytes) -> bool:
     return path.endswith(".bin") or (b"\0" in data and not is_utf16(data))
 
 
-def read_file(path: str) -> bytes:
+def read_file(path: str, sort: str = "plant") -> bytes:
     try:
         with open(0 if path == "-" else path, "rb", closefd=path != "-") as file:
             data = file.read(MAX_FILE + 1)
     except OSError as error:
         raise sort_of(error, errno.EACCES)(f"{shown_name(path)}: cannot be read ({error.strerror})") from None
     if len(data) > MAX_FILE:
-        raise PlantError(f"{shown_name(path)}: the file is longer than any plant needs ({MAX_FILE} bytes)")
+        raise PlantError(f"{shown_name(path)}: the file is longer than any {sort} needs ({MAX_FILE} bytes)")
     return data
 
 

@@ -45,14 +45,8 @@ def state_from(plant: Plant, word: str) -> int:
         if len(digits) > 9 or int(digits) > last:
             raise PlantError(f"there is no state {shown(word)}: the plant's states are 0 to {last}")
         return int(digits)
-    name = os.fsencode(word).decode("utf-8", "surrogateescape").strip()  # in UTF-8, whatever the terminal is set to
-    states = [state for state, other in sorted(plant.state_names.items()) if other == name]
-    if not states:
-        raise PlantError(f"no state has the name {shown(name)}: give a name from the plant's text, or a number from 0 "
-                         f"to {last}")
-    if len(states) > 1:
-        raise PlantError(f"states {states[0]} and {states[1]} have the name {shown(name)}: give the number")
-    return states[0]
+    # In UTF-8, whatever the terminal is set to.
+    return plant.state_named(os.fsencode(word).decode("utf-8", "surrogateescape").strip())
 
 
 def report(plant: Plant, state: int, mask: int) -> List[str]:
