@@ -16,6 +16,12 @@ pub mod rounds;
 /// How many bytes are watched on each side of a buffer.
 const GUARD: usize = 24;
 
+/// What compares calls, and counts them.
+pub trait Counts {
+    /// How many calls were compared.
+    fn calls(&self) -> u64;
+}
+
 /// Compares `ours` with `second`, and counts the calls compared.
 pub struct Comparison<'a> {
     ours: &'a dyn Calls,
@@ -92,6 +98,12 @@ impl Outcome {
     }
 }
 
+impl Counts for Comparison<'_> {
+    fn calls(&self) -> u64 {
+        self.calls
+    }
+}
+
 impl<'a> Comparison<'a> {
     /// Compares two planners.
     pub fn new(ours: &'a dyn Calls, second: &'a dyn Calls) -> Comparison<'a> {
@@ -119,11 +131,6 @@ impl<'a> Comparison<'a> {
             deep: 0,
             leaving: 0,
         }
-    }
-
-    /// How many calls were compared.
-    pub fn calls(&self) -> u64 {
-        self.calls
     }
 
     /// How many consults passed one goal or more, and how many found all of several goals served.

@@ -99,7 +99,7 @@ fn random_rounds_of_the_gauge() {
     let mut counts = [0; 6];
     for (name, round) in gauges::rounds::RANDOM_ROUNDS {
         let mut comparison = GaugeComparison::new(&Linked, &Exact);
-        let rounds = gauges::rounds::run(&mut comparison, round, SEED, calls);
+        let rounds = rounds::run(&mut comparison, round, SEED, calls);
         println!("{name}, {rounds} rounds from seed {SEED}: {}", comparison.summary());
         counts = std::array::from_fn(|at| counts[at] + comparison.counts()[at]);
     }

@@ -337,7 +337,7 @@ fn gauges() {
         round(&mut comparison);
     }
     for (_, round) in gauges::rounds::RANDOM_ROUNDS {
-        gauges::rounds::run(&mut comparison, round, 1, 20_000);
+        rounds::run(&mut comparison, round, 1, 20_000);
     }
     println!("{}", comparison.summary());
 }

@@ -3,7 +3,7 @@
 
 use planbook::calls::Linked;
 use planbook::compare::gauges::{self, GaugeComparison};
-use planbook::compare::{rounds, Comparison};
+use planbook::compare::{rounds, Comparison, Counts};
 use planbook::second::{gauge::Exact, Fast};
 
 /// How many calls of one kind are compared before the next kind has its turn.
@@ -38,7 +38,7 @@ fn compare_gauges(calls: u64, first_seed: u64) {
     while comparison.calls() < calls {
         for ((name, round), seed) in gauges::rounds::RANDOM_ROUNDS.into_iter().zip(&mut seeds) {
             eprintln!("{} calls of the gauge compared; {name} from seed {seed}", comparison.calls());
-            *seed += gauges::rounds::run(&mut comparison, round, *seed, TURN);
+            *seed += rounds::run(&mut comparison, round, *seed, TURN);
         }
     }
     println!("{}; seeds {first_seed} to {seeds:?}", comparison.summary());

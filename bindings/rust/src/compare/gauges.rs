@@ -3,7 +3,7 @@
 //!
 //! A difference is a panic whose message has the call's input, floats with their bits.
 
-use super::hex;
+use super::{hex, Counts};
 use crate::calls::{Gauges, Lists};
 use crate::second::gauge::Steps;
 use crate::sys::{Place, AT, OPEN};
@@ -90,6 +90,12 @@ pub struct GaugeComparison<'a> {
     rounded: u64,
 }
 
+impl Counts for GaugeComparison<'_> {
+    fn calls(&self) -> u64 {
+        self.calls
+    }
+}
+
 impl<'a> GaugeComparison<'a> {
     /// Compares two gauges.
     pub fn new(ours: &'a dyn Gauges, second: &'a dyn Gauges) -> GaugeComparison<'a> {
@@ -104,11 +110,6 @@ impl<'a> GaugeComparison<'a> {
             on_ends: 0,
             rounded: 0,
         }
-    }
-
-    /// How many calls were compared.
-    pub fn calls(&self) -> u64 {
-        self.calls
     }
 
     /// How many calls were refused with 11 and with 12, found a band and fell in a gap, had a deviation that is an end

@@ -1,7 +1,7 @@
 //! What is compared: exhaustive rounds on strip plant P and on a small plant that must settle, and random rounds that a
 //! seed fixes.
 
-use super::{in_service, Comparison};
+use super::{in_service, Comparison, Counts};
 use crate::calls::mask_bytes;
 use crate::plants::{self, bytes_of, Model, Random, FAMILIES};
 use crate::second::format::{number, read_masks, together};
@@ -57,7 +57,7 @@ pub const EXHAUSTIVE_ROUNDS: [fn(&mut Comparison); 18] = [
 ];
 
 /// Runs random rounds of one kind, from a seed on, until so many calls were compared; answers how many rounds.
-pub fn run(comparison: &mut Comparison, round: Round, seed: u64, calls: u64) -> u64 {
+pub fn run<C: Counts>(comparison: &mut C, round: fn(&mut C, &mut Random), seed: u64, calls: u64) -> u64 {
     let end = comparison.calls() + calls;
     let mut rounds = 0;
     while comparison.calls() < end {

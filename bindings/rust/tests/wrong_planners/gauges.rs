@@ -2,7 +2,8 @@
 //! that they find.
 
 use planbook::calls::{Gauges, Lists};
-use planbook::compare::gauges::{rounds, GaugeComparison};
+use planbook::compare::gauges::{rounds::RANDOM_ROUNDS, GaugeComparison};
+use planbook::compare::rounds::run;
 use planbook::second::gauge::Exact;
 use planbook::sys::{Place, AT, MOST_BANDS, OPEN};
 
@@ -350,8 +351,8 @@ impl Gauges for Own {
 /// All random rounds, for some calls of each kind.
 fn compare(gauge: &dyn Gauges, second: &dyn Gauges) {
     let mut comparison = GaugeComparison::new(gauge, second);
-    for (_, round) in rounds::RANDOM_ROUNDS {
-        rounds::run(&mut comparison, round, 1, 3_000);
+    for (_, round) in RANDOM_ROUNDS {
+        run(&mut comparison, round, 1, 3_000);
     }
 }
 

@@ -27,17 +27,6 @@ pub const EXHAUSTIVE_ROUNDS: [fn(&mut GaugeComparison); 8] = [
     every_combination_of_refusals,
 ];
 
-/// Runs random rounds of one kind, from a seed on, until so many calls were compared; answers how many rounds.
-pub fn run(comparison: &mut GaugeComparison, round: Round, seed: u64, calls: u64) -> u64 {
-    let end = comparison.calls() + calls;
-    let mut rounds = 0;
-    while comparison.calls() < end {
-        round(comparison, &mut Random::new(seed + rounds));
-        rounds += 1;
-    }
-    rounds
-}
-
 /// Floats at the edges: zeros, the least and the largest of each sort, and around them, half a step of the largest,
 /// and what is not finite, signalling and negative ones among the undefined.
 pub fn special_floats() -> Vec<f64> {
