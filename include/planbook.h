@@ -5,6 +5,7 @@
  * thread: every call works on the memory it is lent and on less than 256 KiB of stack. Any bytes may be handed in.
  *
  * planbook_gauge turns what a thickness gauge reads into a state, by a table of bands; it takes no plant and no book.
+ * planbook_start and planbook_report are the mill desk: they follow a book from state to state.
  *
  * Plants, books and indexes are byte strings; docs/FORMATS.md describes them. There are two sorts. In a plant whose
  * last header number is 1 every run must settle: from some moment on all its states are settled, as bit 9 of their
@@ -12,7 +13,7 @@
  * there has books of 16 + 4SN bytes, without stages. A book's length tells its sort. Indexes are of one sort.
  *
  * Every call returns a `number`: 0 when it was accepted, otherwise the first of these that applies, and then every
- * other field is 0 and no byte was written:
+ * other field is 0 and no byte was written; only a refused report has the state and the goal that it was handed:
  *
  *   1  the plant is under 16 bytes, a count is out of range (S 1 to 1,024, U 1 to 32, N 1 to 8, E 0 to 8,192), an
  *      offset or the length is wrong, the last header number is neither 0 nor 1, or plant_len differs from the length
@@ -29,11 +30,13 @@
  *   6  the mask given, or any mask of the list, has a bit at U or above
  *   7  the book buffer is under 16 + 4SN bytes, for a plant that must settle under 16 + 2S + 4SN, or the drop buffer, or
  *      that for the states gained, under 2S; preview has the drop buffer alone, and index a buffer of 8 + 2E bytes
- *   8  the state is not below S, or the goal not below N
+ *   8  a state, asked for, held or reported, is not below S, or the goal not below N
  *  11  the table of bands is not in order: there are not 1 to 64 bands with two kinds and two ends for each, a kind is
  *      neither 0 nor 1, an end that is a number is infinite or undefined, a band is empty (its upper end is not above
  *      its lower one), a band begins before the one before it ends, or a state is not below the S given
  *  12  the reading, the aim or the reading less the aim is infinite or undefined
+ *  13  the state held is lost in the book handed in, or the state reported is not the end of an arrow of the move that
+ *      consult gives for the state and the goal held
  *
  * Buffers must not overlap: neither each other nor what is lent for reading. A buffer that is lent for writing keeps
  * every byte past what the call writes. A pointer may be null only where its length is 0.
@@ -112,6 +115,19 @@ typedef struct {
     uint32_t found;  /* 1 when a band holds the deviation; 0 when it lies in a gap, and when refused */
     uint32_t state;  /* that band's state, below S; 0 when none is found */
 } planbook_place;
+
+/* What start and report answer: what to do in the state that the desk is in now, and what it holds from then on. */
+typedef struct {
+    uint32_t number; /* 0, or why it was refused */
+    uint32_t lost;   /* 1 when the state is lost; move, wait and seek are then 0 */
+    uint32_t move;   /* the move to make for the goal arrived at, below U */
+    uint32_t wait;   /* the most moves it can take to that goal, as in planbook_advice */
+    uint32_t seek;   /* the goal arrived at */
+    uint32_t state;  /* the state held: the one started in or reported. A refused report has the one handed in, a refused
+                        start 0 */
+    uint32_t goal;   /* the goal held: the one arrived at, in a lost state the one sought. A refused report has the one
+                        handed in, a refused start 0 */
+} planbook_desk;
 
 /*
  * Makes the book of a plant with the moves of a mask in service (bit u is move u). In a plant that must settle a state
@@ -232,6 +248,31 @@ planbook_mask planbook_moves(const uint8_t *plant, size_t plant_len, const uint8
 planbook_place planbook_gauge(const uint8_t *kinds, size_t kinds_len, const double *ends, size_t ends_len,
                               const uint32_t *band_states, size_t band_states_len, uint32_t states, double reading,
                               double aim);
+
+/*
+ * The mill desk starts to follow a book: in a state, seeking goal 0. It answers what consult answers there, and what the
+ * desk holds: a state and a goal. The desk keeps nothing itself: hand both in with each report, and keep what comes
+ * back. Plant and book are checked as in withdraw. Refusals 1 to 5, 8.
+ */
+planbook_desk planbook_start(const uint8_t *plant, size_t plant_len, const uint8_t *book, size_t book_len,
+                             uint32_t state);
+
+/*
+ * The desk is told which state followed the move that it gave in the state held. The goal that consult arrives at for
+ * the state and the goal held is sought in the state reported, and what consult answers there is answered. The state
+ * reported is then held, with the goal arrived at; a lost state with the goal sought. A refused report changes nothing:
+ * state and goal come back as they were handed in. Refusals 1 to 5, 8 (the state held, the goal held, the state
+ * reported), 13.
+ *
+ * For a plant whose last header number is 0 and a book that make, withdraw, withdraw_list, return or the ways by an
+ * index wrote for it, both the same in every call: from a start in a kept state on, as long as each report is the end of
+ * an arrow of the move given, none is refused and no state is lost. The goal sought is met within the wait that was
+ * answered when it became the one sought, a goal that is passed over is met there, and every goal is met within N times
+ * 1,023 moves from any moment on. Where all goals are served, which is where the wait is 0, the goal sought stays, and
+ * is sought anew in the next state. In other books, and for plants that must settle, both calls answer as consult does.
+ */
+planbook_desk planbook_report(const uint8_t *plant, size_t plant_len, const uint8_t *book, size_t book_len,
+                              uint32_t held_state, uint32_t held_goal, uint32_t reported);
 
 #ifdef __cplusplus
 }

@@ -1,4 +1,5 @@
--- The arrows of an accepted plant ascend, so those of one state stand together, and bisection finds where they begin.
+-- The arrows of an accepted plant ascend, so bisection finds where those from a rank on begin, and those of one state
+-- stand together.
 -- Assumes nothing.
 use mathlib.Core.Path.{_≡_, refl, sym, ap, _∙_, subst}
 use mathlib.Core.Bool.{true}
@@ -11,9 +12,10 @@ use borrow.Author.Tests.{ltb-true, leb-true}
 use Rattle.statements.specs.Plants.{word, Arrow, plantOf, rank, arrowsOk, plantFault}
 use Rattle.sets.proofs.Tests.{and-iff}
 use Rattle.decoding.proofs.Faults.{plant-tests, plant-ok}
+use Rattle.format.specs.declared.arrows.Arrow.{Arrow as ReadArrow}
 use Rattle.format.specs.Arrows.{arrowIn, arrowsLeft}
 use Rattle.format.proofs.Stored.{asArrow, left-more}
-use Rattle.consult.specs.Checks.{Begins}
+use Rattle.consult.specs.Checks.{rankIn, Reaches, Begins}
 
 -- what is known of the next arrow, and of those after it
 record Next (s u least : ℕ) (a : Arrow) (rest : List Arrow) : Type 0 where
@@ -45,37 +47,53 @@ module _ (s : List ℕ) (fine : plantFault s ≡ 0) where
       next-of (rw (left-more s k (omega arith)) at (r .1)) in
       (suc (rank (asArrow (arrowIn s k))), rw (add-one k) at (n .ascend))
 
-  -- so one starts no earlier than the one before it, and than any before it
-  from-next : (k : ℕ) → suc k < word 3 s → arrowIn s k .from ≤ arrowIn s (suc k) .from
-  unfolding rank
-  from-next k h =
-      let sizes = plant-ok s fine .sizes in
+  -- what is known of arrow k
+  next-at : (k : ℕ) → k < word 3 s
+      → (least : ℕ) × Next (plantOf s .states) (plantOf s .moves) least (asArrow (arrowIn s k)) (arrowsLeft s (k + 1))
+  next-at k h =
       let r = left-ascend k (omega arith) in
-      let a : Next _ _ (r .0) (asArrow (arrowIn s k)) (arrowsLeft s (k + 1)) =
-      next-of (rw (left-more s k (omega arith)) at (r .1)) in
+      (r .0, next-of (rw (left-more s k h) at (r .1)))
+
+  -- its move and its end are below 65,536
+  pub arrow-low : (k : ℕ) → k < word 3 s → (arrowIn s k .action < 65536) × (arrowIn s k .to < 65536)
+  arrow-low k h =
+      let sizes = plant-ok s fine .sizes in
+      let a = next-at k h .1 in
+      (omega (arith, a .move-below, sizes .moves-most), omega (arith, a .to-below, sizes .states-most))
+
+  -- so one is of a higher rank than the one before it, and than any before it
+  rank-next : (k : ℕ) → suc k < word 3 s → rankIn s k < rankIn s (suc k)
+  unfolding rank
+  rank-next k h =
+      let a = next-at k (omega arith) .1 in
       let more : arrowsLeft s (k + 1) ≡ asArrow (arrowIn s (suc k)) ∷ arrowsLeft s (suc k + 1) =
       rw (add-one k) (left-more s (suc k) h) in
       let b : Next _ _ _ (asArrow (arrowIn s (suc k))) (arrowsLeft s (suc k + 1)) = next-of (rw more at (a .ascend)) in
-      omega (arith, b .higher, b .move-below, b .to-below, sizes .states-most, sizes .moves-most)
+      omega (arith, b .higher)
 
-  from-later : (j n : ℕ) → j + n < word 3 s → arrowIn s j .from ≤ arrowIn s (j + n) .from
-  from-later j zero h = rw (add-zero j) (omega arith)
-  from-later j (suc n) h =
+  rank-later : (j n : ℕ) → j + n < word 3 s → rankIn s j + n ≤ rankIn s (j + n)
+  rank-later j zero h = rw (add-zero j) (omega arith)
+  rank-later j (suc n) h =
       let there : suc (j + n) ≡ j + suc n = omega arith in
-      subst (λ (m : ℕ). arrowIn s j .from ≤ arrowIn s m .from) there
-      (omega (arith, from-later j n (omega arith), from-next (j + n) (omega arith)))
+      subst (λ (m : ℕ). rankIn s j + suc n ≤ rankIn s m) there
+      (omega (arith, rank-later j n (omega arith), rank-next (j + n) (omega arith)))
 
-  pub ascends : (j k : ℕ) → j ≤ k → k < word 3 s → arrowIn s j .from ≤ arrowIn s k .from
+  pub ascends : (j k : ℕ) → j ≤ k → k < word 3 s → rankIn s j + (k - j) ≤ rankIn s k
   ascends j k h e =
       let there : j + (k - j) ≡ k = omega arith in
-      subst (λ (m : ℕ). arrowIn s j .from ≤ arrowIn s m .from) there (from-later j (k - j) (omega arith))
+      subst (λ (m : ℕ). rankIn s j + (k - j) ≤ rankIn s m) there (rank-later j (k - j) (omega arith))
 
--- bisection: the arrows before arrow low start before state x, and those from arrow high on do not
+-- the rank of an arrow that was read
+pub rank-read : (s : List ℕ) (k : ℕ) {r : ℕ} {a : ReadArrow} → a ≡ arrowIn s k
+    → r ≡ 65536 * (65536 * a .from) + (65536 * a .action + a .to) → r ≡ rankIn s k
+rank-read s k e told = told ∙ ap (λ (a : ReadArrow). 65536 * (65536 * a .from) + (65536 * a .action + a .to)) e
+
+-- bisection: the arrows before arrow low are of a lower rank than x, and those from arrow high on are not
 pub record Between (s : List ℕ) (x low high : ℕ) : Type 0 where
   pub order : low ≤ high
   pub within : high ≤ word 3 s
-  pub before : (j : ℕ) → j < low → arrowIn s j .from < x
-  pub after : (j : ℕ) → high ≤ j → j < word 3 s → x ≤ arrowIn s j .from
+  pub before : (j : ℕ) → j < low → rankIn s j < x
+  pub after : (j : ℕ) → high ≤ j → j < word 3 s → x ≤ rankIn s j
 
 pub between-start : {s : List ℕ} {high : ℕ} (x : ℕ) → high ≡ word 3 s → Between s x 0 high
 between-start x e =
@@ -88,8 +106,8 @@ between-start x e =
 
 module _ {s : List ℕ} {x low high : ℕ} (fine : plantFault s ≡ 0) (b : Between s x low high) (mid : ℕ) (from : low ≤ mid)
     (below : mid < high) where
-  -- the arrow in the middle starts before the state, or does not
-  pub between-up : arrowIn s mid .from < x → Between s x (mid + 1) high
+  -- the arrow in the middle is of a lower rank, or is not
+  pub between-up : rankIn s mid < x → Between s x (mid + 1) high
   between-up h =
       record {
         order = omega arith;
@@ -100,7 +118,7 @@ module _ {s : List ℕ} {x low high : ℕ} (fine : plantFault s ≡ 0) (b : Betw
         after = b .after;
       }
 
-  pub between-down : x ≤ arrowIn s mid .from → Between s x low mid
+  pub between-down : x ≤ rankIn s mid → Between s x low mid
   between-down h =
       record {
         order = from;
@@ -112,10 +130,19 @@ module _ {s : List ℕ} {x low high : ℕ} (fine : plantFault s ≡ 0) (b : Betw
       }
 
 -- nothing is between
-pub between-end : {s : List ℕ} {x low high : ℕ} → Between s x low high → high ≤ low → Begins s x low
+pub between-end : {s : List ℕ} {x low high : ℕ} → Between s x low high → high ≤ low → Reaches s x low
 between-end b h =
     record {
       within = omega (arith, b .order, b .within);
       before = b .before;
       after = λ j e l. b .after j (omega arith) l;
+    }
+
+-- the arrows of a state begin with its lowest rank
+pub begins : {s : List ℕ} (x : ℕ) {k : ℕ} → plantFault s ≡ 0 → Reaches s (4294967296 * x) k → Begins s x k
+begins {s} x fine r =
+    record {
+      within = r .within;
+      before = λ j h. omega (arith, r .before j h);
+      after = λ j h l. omega (arith, r .after j h l, arrow-low s fine j l .0, arrow-low s fine j l .1);
     }

@@ -1,6 +1,6 @@
--- Consulting a book and handing back a row, case by case: refused, lost, kept; and what a call for all good moves is
--- given. Assumes nothing.
-use mathlib.Core.Path.{_≡_, sym, ap₂, _∙_}
+-- Consulting a book, with the plant or without it, and handing back a row, case by case: refused, lost, kept; and what a
+-- call for all good moves is given. Assumes nothing.
+use mathlib.Core.Path.{_≡_, sym, ap₂, _∙_, subst}
 use mathlib.Core.Bool.{true, false}
 use mathlib.Core.List.{List}
 use Prim.Native.Nat.{ℕ, _+_, _-_, _<_}
@@ -13,19 +13,56 @@ use Rattle.statements.specs.Books.{rowPlace, rowLong, waitAt, moveAt, isLost, a
 use Rattle.statements.specs.Calls.{lentFault, consultFault, movesFault, rowPart}
 use Rattle.decoding.proofs.Faults.{first-iff, lent-ok}
 use Rattle.decoding.proofs.Asked.{moves-fine}
-use Rattle.promises.specs.Says.{accepted, keeps, ConsultSays}
+use Rattle.promises.specs.declared.Advice.{Advice}
+use Rattle.promises.specs.Says.{accepted, keeps, Advises, ConsultSays}
 use Rattle.promises.proofs.Rows.{row-given}
 
-module _ (b : List ℕ) (x i : ℕ) where
-  -- consult's answer: refused
-  pub says-refused : (n : ℕ) → n ≡ consultFault b x i → (n ≡ 0 → ⊥)
-      → ConsultSays b x i (record { number = n; lost = false; action = 0; wait = 0; seek = 0 })
-  unfolding accepted keeps
-  says-refused n e h =
-      let no : eqb (consultFault b x i) 0 ≡ false = ne-eqb _ _ (λ z. h (e ∙ z)) in
-      record { number = e; lost = rw no; action = rw no; wait = rw no; seek = rw no }
+-- a refused call gives no advice
+abbrev pub Silent : ℕ → Advice → Type 0
+Silent n r = (r .number ≡ n) × (r .lost ≡ false) × (r .action ≡ 0) × (r .wait ≡ 0) × (r .seek ≡ 0)
 
-  -- lost
+pub advises-refused : {n m : ℕ} {b : List ℕ} {x i : ℕ} {r : Advice} → m ≡ n → (m ≡ 0 → ⊥) → Silent m r
+    → Advises n b x i r
+advises-refused {n} e h quiet =
+    let no : eqb n 0 ≡ false = ne-eqb n 0 (λ z. h (e ∙ z)) in
+    record {
+      number = quiet .0 ∙ e;
+      lost = rw no (quiet .1);
+      action = rw no (quiet .2);
+      wait = rw no (quiet .3);
+      seek = rw no (quiet .4);
+    }
+
+-- consult's own advice, and that of a call that is accepted where consult is
+module _ {b : List ℕ} {x i : ℕ} {r : Advice} where
+  pub consult-advises : ConsultSays b x i r → Advises (consultFault b x i) b x i r
+  unfolding accepted keeps
+  consult-advises says =
+      record {
+        number = says .number;
+        lost = says .lost;
+        action = says .action;
+        wait = says .wait;
+        seek = says .seek;
+      }
+
+  pub advises-consult : Advises (consultFault b x i) b x i r → ConsultSays b x i r
+  unfolding accepted keeps
+  advises-consult says =
+      record {
+        number = says .number;
+        lost = says .lost;
+        action = says .action;
+        wait = says .wait;
+        seek = says .seek;
+      }
+
+  pub advises-fine : {n : ℕ} → n ≡ 0 → consultFault b x i ≡ 0 → ConsultSays b x i r → Advises n b x i r
+  advises-fine {n} e fine says =
+      subst (λ (m : ℕ). Advises m b x i r) (fine ∙ sym e) (consult-advises says)
+
+module _ (b : List ℕ) (x i : ℕ) where
+  -- consult's answer: lost
   pub says-lost : consultFault b x i ≡ 0 → isLost b x ≡ true
       → ConsultSays b x i (record { number = 0; lost = true; action = 0; wait = 0; seek = 0 })
   unfolding accepted keeps

@@ -1,8 +1,8 @@
--- Where a move may lead, by a part of the rule of an entry, the test of the end of an arrow, and where the arrows of a
--- state begin, which only functions inside this crate promise.
+-- Where a move may lead, by a part of the rule of an entry, the test of the end of an arrow, and where the arrows from a
+-- rank or a state on begin, which only functions inside this crate promise.
 use mathlib.Core.Bool.{Bool, _&&_, _||_, not}
 use mathlib.Core.List.{List}
-use Prim.Native.Nat.{ℕ, _≤_, _<_}
+use Prim.Native.Nat.{ℕ, _+_, _*_, _≤_, _<_}
 use lib.Dec.{eqb, ltb}
 use Rattle.statements.specs.Sets.{filter}
 use Rattle.statements.specs.Plants.{word}
@@ -23,7 +23,17 @@ nearerThan b stage wait i early y = ltb y (bookStates b) && (not (isLost b y) &&
 unfoldable pub leadsIn : List ℕ → Bool → ℕ → ℕ → List ℕ
 leadsIn b early x i = filter (closer b (stageAt b x) (waitAt b x i) i early) (bookKept b)
 
--- the arrows of a plant before arrow k start before state x, and those from it on start there or past it
+-- the number by which arrow k of a plant is compared with others
+abbrev pub rankIn : List ℕ → ℕ → ℕ
+rankIn s k = let a = arrowIn s k in 65536 * (65536 * a .from) + (65536 * a .action + a .to)
+
+-- the arrows of a plant before arrow k are of a lower rank than one given, and those from it on are not
+pub record Reaches (s : List ℕ) (rank k : ℕ) : Type 0 where
+  pub within : k ≤ word 3 s
+  pub before : (j : ℕ) → j < k → rankIn s j < rank
+  pub after : (j : ℕ) → k ≤ j → j < word 3 s → rank ≤ rankIn s j
+
+-- they start before state x, and those from arrow k on start there or past it
 pub record Begins (s : List ℕ) (x k : ℕ) : Type 0 where
   pub within : k ≤ word 3 s
   pub before : (j : ℕ) → j < k → arrowIn s j .from < x

@@ -1,6 +1,7 @@
 // The goal arrived at in a state, and the advice for a kept state.
 use format::word::number;
 use promises::Advice;
+use rows::is_lost;
 use rows::move_at;
 use rows::wait_at;
 ghost use mathlib.Core.Path.{_≡_};
@@ -53,5 +54,35 @@ pub(crate) fn advise(book: &[u8], state: u32, goal: u32) -> Advice
         action: move_at(book, state, at),
         wait: wait_at(book, state, at),
         seek: at as u16,
+    }
+}
+
+// The advice for a state and a goal of an accepted book: lost, or that for a kept state.
+pub(crate) fn answer(book: &[u8], state: u32, goal: u32) -> Advice
+    requires { ⌜ consultFault (now book) state goal ≡ 0 ⌝ }
+    ensures { λ r. ⌜ ConsultSays (now (book .entry)) state goal r ⌝ }
+{
+    if is_lost(book, state) {
+        return Advice {
+            number: 0,
+            lost: true,
+            action: 0,
+            wait: 0,
+            seek: 0,
+        };
+    }
+    advise(book, state, goal)
+}
+
+// A refused call gives no advice.
+pub(crate) fn refused(fault: u8) -> Advice
+    ensures { λ r. ⌜ (r .number ≡ fault) × (r .lost ≡ false) × (r .action ≡ 0) × (r .wait ≡ 0) × (r .seek ≡ 0) ⌝ }
+{
+    Advice {
+        number: fault,
+        lost: false,
+        action: 0,
+        wait: 0,
+        seek: 0,
     }
 }

@@ -1,12 +1,15 @@
-// The public calls that read a book: consult it for a move or for all good ones, hand back a state's row.
+// The public calls that read a book: consult it for a move, for a step or for all good moves, hand back a state's row.
 mod goals;
 mod moves;
 
+use format::word::number;
 use promises::Advice;
 use promises::Mask;
+use promises::Stepped;
 ghost use Rattle.statements.specs.Demands.{Arriving};
-ghost use Rattle.promises.specs.Says.{ConsultSays, MovesSays, RowSays, Determined};
+ghost use Rattle.promises.specs.Says.{ConsultSays, ConsultPlantSays, StepSays, MovesSays, RowSays, Determined};
 ghost use Rattle.promises.specs.Rows.{Rows};
+ghost use Rattle.promises.specs.Steps.{Steps};
 ghost use Rattle.promises.specs.Walks.{Walks};
 
 // Takes a book, a state and the goal sought. Answers lost, or the goal arrived at, where every goal that the state
@@ -19,24 +22,61 @@ pub fn consult_book(book: &[u8], state: u32, goal: u32) -> Advice
 {
     let fault = refusals::consult(book, state, goal);
     if fault != 0 {
-        return Advice {
-            number: fault,
-            lost: false,
-            action: 0,
-            wait: 0,
-            seek: 0,
+        return goals::refused(fault);
+    }
+    goals::answer(book, state, goal)
+}
+
+// Consults a book with the plant lent too: both are checked as in a withdrawal. The advice is consult's.
+pub fn consult_plant(plant: &[u8], book: &[u8], state: u32, goal: u32) -> Advice
+    ensures { λ r. ⌜ ConsultPlantSays (now (plant .entry)) (now (book .entry)) state goal r ⌝ }
+    ensures plant_arriving { λ _. ⌜ Arriving ⌝ }
+    ensures plant_steps { λ _. ⌜ Steps ⌝ }
+    ensures plant_determined { λ _. ⌜ Determined ⌝ }
+{
+    let fault = refusals::moves(plant, book, state, goal);
+    if fault != 0 {
+        return goals::refused(fault);
+    }
+    goals::answer(book, state, goal)
+}
+
+// Consults a step, with the plant lent and one check of plant and book: the advice for a state and the goal sought;
+// whether the move advised may lead to the state that followed; and the advice for that one, where the goal advised is
+// sought.
+pub fn consult_step(plant: &[u8], book: &[u8], state: u32, goal: u32, end: u32) -> Stepped
+    ensures { λ r. ⌜ StepSays (now (plant .entry)) (now (book .entry)) state goal end r ⌝ }
+    ensures step_arriving { λ _. ⌜ Arriving ⌝ }
+    ensures step_steps { λ _. ⌜ Steps ⌝ }
+    ensures step_determined { λ _. ⌜ Determined ⌝ }
+{
+    let here = consult_plant(plant, book, state, goal);
+    if here.number != 0 {
+        let next = goals::refused(here.number);
+        return Stepped {
+            here,
+            leads: false,
+            next,
         };
     }
-    if rows::is_lost(book, state) {
-        return Advice {
-            number: 0,
-            lost: true,
-            action: 0,
-            wait: 0,
-            seek: 0,
+    if (number(book, 0) as u32) <= end {
+        let next = goals::refused(8);
+        return Stepped {
+            here,
+            leads: false,
+            next,
         };
     }
-    goals::advise(book, state, goal)
+    let next = goals::answer(book, end, here.seek as u32);
+    if here.lost {
+        return Stepped {
+            here,
+            leads: false,
+            next,
+        };
+    }
+    let leads = moves::leads(plant, state, here.action, end);
+    Stepped { here, leads, next }
 }
 
 // Takes a plant, a book, a state and the goal sought. Answers all moves that meet the rule of the entry of the goal

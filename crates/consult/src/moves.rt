@@ -1,7 +1,7 @@
 // Every good move: those of a book's mask that meet the rule of the entry of a state and a goal, read off the state's
-// arrows in an accepted plant and the book's own rows.
-use format::arrows::from_at;
+// arrows in an accepted plant and the book's own rows. And whether a plant has an arrow.
 use format::arrows::read;
+use format::plant::rank_of;
 use format::word::bit_at;
 use format::word::number;
 use rows::is_lost;
@@ -11,9 +11,10 @@ use rows::staged;
 use rows::wait_at;
 ghost use mathlib.Core.Path.{_≡_};
 ghost use Prim.Native.Nat.{_<_};
-ghost use Rattle.statements.specs.Plants.{plantOf, movesInto, plantFault};
+ghost use Rattle.statements.specs.Sets.{isIn};
+ghost use Rattle.statements.specs.Plants.{plantOf, ends, movesInto, plantFault};
 ghost use Rattle.statements.specs.Books.{bookMask, goodMoves};
-ghost use Rattle.consult.specs.Checks.{nearerThan, leadsIn, Begins};
+ghost use Rattle.consult.specs.Checks.{nearerThan, leadsIn, Reaches, Begins};
 
 // The end of an arrow is a state that the book keeps, of an earlier stage; or, unless only these count, of the stage
 // given and above wait 0 with a smaller wait for the goal. Without stages all are of one.
@@ -28,22 +29,47 @@ fn nearer(book: &[u8], stage: u16, wait: u16, goal: u32, early: bool, end: u32) 
     !is_lost(book, end) & ((there < stage) | (!early & ((there == stage) & less)))
 }
 
-// The first arrow of a plant that starts in a state or past it, by bisection: the arrows of an accepted plant ascend.
-fn first_from(plant: &[u8], state: u32) -> u16
+// The first arrow of a plant of a rank or above it, by bisection: the arrows of an accepted plant ascend.
+fn first_at(plant: &[u8], rank: u64) -> u16
     requires { ⌜ plantFault (now plant) ≡ 0 ⌝ }
-    ensures { λ r. ⌜ Begins (now (plant .entry)) state r ⌝ }
+    ensures { λ r. ⌜ Reaches (now (plant .entry)) rank r ⌝ }
 {
     let mut low: u16 = 0;
     let mut high = number(plant, 3);
     while low < high {
         let mid = low + (high - low) / 2;
-        if (from_at(plant, mid) as u32) < state {
+        let arrow = read(plant, mid);
+        if rank_of(arrow.from, arrow.action, arrow.to) < rank {
             low = mid + 1;
         } else {
             high = mid;
         }
     }
     low
+}
+
+// The first arrow of a plant that starts in a state or past it.
+fn first_from(plant: &[u8], state: u32) -> u16
+    requires { ⌜ plantFault (now plant) ≡ 0 ⌝ }
+    ensures { λ r. ⌜ Begins (now (plant .entry)) state r ⌝ }
+{
+    first_at(plant, 4294967296 * (state as u64))
+}
+
+// Whether a move made in a state of an accepted plant may lead to another: whether the plant has that arrow.
+pub(crate) fn leads(plant: &[u8], state: u32, action: u16, end: u32) -> bool
+    requires fine { ⌜ plantFault (now plant) ≡ 0 ⌝ }
+    requires from_low { ⌜ state < plantOf (now plant) .states ⌝ }
+    requires end_low { ⌜ end < plantOf (now plant) .states ⌝ }
+    ensures { λ r. ⌜ r ≡ isIn end (ends (plantOf (now (plant .entry))) state action) ⌝ }
+{
+    let rank = rank_of(state as u16, action, end as u16);
+    let k = first_at(plant, rank);
+    if number(plant, 3) <= k {
+        return false;
+    }
+    let arrow = read(plant, k);
+    rank_of(arrow.from, arrow.action, arrow.to) == rank
 }
 
 // The moves of the book's mask with an arrow in a state, all of whose arrows end in earlier stages, or where the rule

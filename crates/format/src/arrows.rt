@@ -1,8 +1,8 @@
 // The arrows of a plant, read one after another in their stored order. The reader holds the plant's bytes and a place;
 // the work is done on the slice and the number, by `arrow_in` where the bytes are known to be there and by `arrow_at`
 // for any bytes. The check of a plant takes one reader from the first arrow to the last. All other code calls `read`,
-// the reader at a place, or `from_at` where the state in which an arrow starts is enough; but the passes of crates
-// layout and index, which know where the arrows stand, read the bytes themselves.
+// the reader at a place; but the passes of crates layout and index, which know where the arrows stand, read the bytes
+// themselves.
 use crate::word::number;
 use crate::word::word_at;
 use crate::word::word_in;
@@ -57,14 +57,6 @@ pub fn arrow_at(plant: &[u8], k: u16) -> Arrow
         action: action,
         to: to,
     }
-}
-
-// The state in which arrow k starts; bytes past the end count as 0.
-pub fn from_at(plant: &[u8], k: u16) -> u16
-    ensures { λ r. ⌜ r ≡ arrowIn (now (plant .entry)) k .from ⌝ }
-{
-    let place = 16 + 2 * (number(plant, 0) as usize) + 6 * (k as usize);
-    word_at(plant, place)
 }
 
 // A reader of a plant's arrows, at a place.

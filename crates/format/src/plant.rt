@@ -83,7 +83,7 @@ fn labels_within(plant: &[u8], count: usize, goals: u32, free: bool) -> bool
 }
 
 // The number by which arrows are compared.
-fn rank_of(from: u16, action: u16, to: u16) -> u64
+pub fn rank_of(from: u16, action: u16, to: u16) -> u64
     ensures { λ r. ⌜ r ≡ 65536 * (65536 * from) + (65536 * action + to) ⌝ }
 {
     65536 * (65536 * (from as u64)) + (65536 * (action as u64) + (to as u64))

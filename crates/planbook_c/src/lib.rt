@@ -5,6 +5,7 @@ ghost use Rattle.statements.specs.Sets.{pick};
 ghost use Rattle.promises.specs.Says.{MakeSays, WithdrawSays, WithdrawListSays, ReturnSays, IndexSays, PreviewSays};
 ghost use Rattle.promises.specs.Says.{MakeIndexedSays, WithdrawIndexedSays, MovesSays};
 ghost use Rattle.planbook_c.specs.Flat.{plain, plainCost, plainMask, AdviceSays, PartSays, PlaceIs};
+ghost use Rattle.planbook_c.specs.Flat.{Flattens, StartIs, ReportIs};
 
 // What make, withdraw, a list of withdrawals, return and index answer: a refusal's number or 0, the length of the book
 // or index, the number of states listed, which a return has gained and the others have dropped.
@@ -56,6 +57,19 @@ pub struct Place {
     pub number: u32,
     pub found: u32,
     pub state: u32,
+}
+
+// What start and report answer: a refusal's number or 0, 1 for a lost state, or the move and the wait of the goal arrived
+// at, and that goal; and the state and the goal that the desk holds from then on.
+#[repr(C)]
+pub struct Desk {
+    pub number: u32,
+    pub lost: u32,
+    pub action: u32,
+    pub wait: u32,
+    pub seek: u32,
+    pub state: u32,
+    pub goal: u32,
 }
 
 // The planner's answer as a struct of 32-bit numbers.
@@ -260,4 +274,44 @@ pub extern "C" fn planbook_gauge(
         found: one(r.found),
         state: r.state,
     }
+}
+
+// The desk's answer as a struct of 32-bit numbers.
+fn flat_desk(r: desk::Desk) -> Desk
+    ensures { λ f. ⌜ Flattens r f ⌝ }
+{
+    let a = r.advice;
+    Desk {
+        number: a.number as u32,
+        lost: one(a.lost),
+        action: a.action as u32,
+        wait: a.wait as u32,
+        seek: a.seek as u32,
+        state: r.state,
+        goal: r.goal,
+    }
+}
+
+// Takes a plant, a book and a state. The desk starts there, seeking goal 0: answers what consult does, and what the
+// desk holds.
+#[no_mangle]
+pub extern "C" fn planbook_start(plant: &[u8], book: &[u8], state: u32) -> Desk
+    ensures { λ r. ⌜ StartIs (now (plant .entry)) (now (book .entry)) state r ⌝ }
+{
+    flat_desk(desk::start_desk(plant, book, state))
+}
+
+// Takes a plant, a book, the state and the goal that the desk holds, and the state that followed. Answers what consult
+// does there, and what the desk holds from then on; refused, it holds what it held.
+#[no_mangle]
+pub extern "C" fn planbook_report(
+    plant: &[u8],
+    book: &[u8],
+    held_state: u32,
+    held_goal: u32,
+    reported: u32,
+) -> Desk
+    ensures { λ r. ⌜ ReportIs (now (plant .entry)) (now (book .entry)) «held_state» «held_goal» reported r ⌝ }
+{
+    flat_desk(desk::report_state(plant, book, held_state, held_goal, reported))
 }

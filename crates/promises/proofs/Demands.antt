@@ -19,6 +19,7 @@ use Rattle.promises.specs.Returning.{Returning-traced}
 use Rattle.promises.specs.Indexed.{Indexed}
 use Rattle.promises.specs.Elsewhere.{Elsewhere-traced}
 use Rattle.promises.specs.Walks.{Walks}
+use Rattle.promises.specs.Steps.{Steps}
 use Rattle.promises.proofs.Listed.{lists-dropped}
 use Rattle.promises.proofs.Rows.{rows}
 use Rattle.promises.proofs.Previewed.{previewed}
@@ -29,6 +30,7 @@ use Rattle.promises.proofs.Elsewhere.{elsewhere-traced}
 use Rattle.promises.proofs.InTurn.{in-turn-traced}
 use Rattle.promises.proofs.Returning.{returning-traced}
 use Rattle.promises.proofs.Written.{demand-2-written}
+use Rattle.promises.proofs.Steps.{steps}
 use Rattle.promises.proofs.Walked.{walks}
 
 -- request (x), and that nothing is left open
@@ -74,6 +76,9 @@ of-preview = (previewed, determined)
 
 pub of-consult : Arriving × (Walks × Determined)
 of-consult = (arriving, (walks, determined))
+
+pub of-step : Arriving × (Steps × Determined)
+of-step = (arriving, (steps, determined))
 
 pub of-moves : Arriving × (Walks × Determined)
 of-moves = (arriving, (walks, determined))

@@ -10,5 +10,6 @@ pub mod Elsewhere
 pub mod InTurn
 pub mod Returning
 pub mod Written
+pub mod Steps
 pub mod Walked
 pub mod Demands

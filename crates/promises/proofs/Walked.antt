@@ -6,28 +6,26 @@ use mathlib.Core.Bool.{true, false}
 use mathlib.Core.List.{List}
 use native.Mathlib.Omega.{arith}
 use Prim.Native.Nat.{ℕ, zero, suc, _<_}
-use lib.ListN.{length, take}
 use borrow.Author.Tests.{eq-eqb}
 use Rattle.statements.specs.Sets.{bit, lowest, isIn}
 use Rattle.statements.specs.Plants.{plantOf, plantFault, ends, available}
 use Rattle.statements.specs.Books.{bookMask, waitAt, moveAt, isLost, bookFault, arrive, goodMoves}
-use Rattle.statements.specs.Calls.{alike, lentFault, consultFault, numberFault, movesFault}
+use Rattle.statements.specs.Calls.{consultFault, numberFault, movesFault}
 use Rattle.statements.specs.Strategies.{Picks, Serves}
 use Rattle.statements.specs.Demands.{Right}
 use Rattle.winning.proofs.Goals.{arrive-below, arrive-again}
-use Rattle.sets.proofs.Tests.{and-true, not-both}
+use Rattle.sets.proofs.Tests.{not-both}
 use Rattle.sets.proofs.Bits.{bit-none}
-use Rattle.decoding.proofs.Faults.{plant-ok, arrow-range, make-ok, lent-ok, lent-fine, withdraw-ok, list-parts, first-iff}
-use Rattle.decoding.proofs.Indexed.{by-parts}
+use Rattle.decoding.proofs.Faults.{first-iff}
 use Rattle.decoding.proofs.Asked as asked
 use Rattle.promises.specs.declared.Advice.{Advice}
 use Rattle.promises.specs.declared.Mask.{Mask}
 use Rattle.promises.specs.Says.{accepted, keeps, ConsultSays, MovesSays}
 use Rattle.promises.specs.Walks.{Taken, WalksTo, Answered, Walk, Walked, Walking, Walks}
-use Rattle.promises.proofs.Read.{no-fault}
+use Rattle.promises.specs.Steps.{WrittenFor, standing, withdrawn, withdrawn-list, returned, made-by, withdrawn-by}
 use Rattle.promises.proofs.Determined.{determined}
-use Rattle.promises.proofs.Traces.{fault-zero, demand-3-traced}
-use Rattle.promises.proofs.Written.{demand-2-written}
+use Rattle.promises.proofs.Steps.{end-low, consult-accepted as consult-taken, moves-accepted as moves-taken}
+use Rattle.promises.proofs.Steps.{by-right}
 
 -- what consult answers for a kept state, once it is accepted
 module _ {b : List ℕ} {x i : ℕ} {r : Advice} (says : ConsultSays b x i r) (fine : consultFault b x i ≡ 0)
@@ -69,20 +67,10 @@ module _ (s : List ℕ) {b : List ℕ} {mask : ℕ} {within : ℕ → Type 0} (p
   module _ {x i : ℕ} (at : At x i) where
     -- the calls are accepted there
     consult-accepted : consultFault b x i ≡ 0
-    consult-accepted =
-        asked.is-fine b x i (right .accepted) (rw (right .is-book .states) (at .state))
-        (rw (right .is-book .goals) (at .goal))
+    consult-accepted = consult-taken s plant right (at .state) (at .goal)
 
     moves-accepted : movesFault s b x i ≡ 0
-    unfolding movesFault alike consultFault
-    moves-accepted =
-        let same =
-        and-true (eq-eqb _ _ (right .is-book .states))
-        (and-true (eq-eqb _ _ (right .is-book .moves))
-        (and-true (eq-eqb _ _ (right .is-book .goals))
-        (eq-eqb _ _ (right .is-book .total ∙ right .is-book .size)))) in
-        first-iff (lentFault s b) _ .1
-        (lent-fine s b plant (right .accepted) same, first-iff (bookFault b) _ .0 consult-accepted .1)
+    moves-accepted = moves-taken s plant right (at .state) (at .goal)
 
     -- the goal arrived at is one of the plant's
     arrived : arrive b x i < plantOf s .goals
@@ -129,12 +117,9 @@ module _ (s : List ℕ) {b : List ℕ} {mask : ℕ} {within : ℕ → Type 0} (p
 
       -- and leads to a kept state; the goal sought there is the one arrived at
       next : (y : ℕ) → isIn y (ends (plantOf s) x u) ≡ true → At y (r .seek)
-      unfolding ends
       next y leads =
-          let p = plantOf s in
           let meets = right .safe x (arrive b x i) u (at .state) arrived good-taken in
-          let state =
-          arrow-range (p .arrows) (p .states) (p .moves) 0 x u y (plant-ok s plant .arrows-ok) leads .1 in
+          let state = end-low s plant x u y leads in
           record {
             state = state;
             kept = right .is-book .kept y state .1 (meets .ends-well y leads);
@@ -258,24 +243,18 @@ walking s plant right =
           walked s plant right states goals moves advice walk (record { state = hx; kept = kept; goal = hi });
     }
 
+walking-by : (s : List ℕ) {b : List ℕ} → WrittenFor s b → Walking s b
+walking-by s {b} written = by-right s b written (λ mask within plant right. walking s plant right)
+
 pub walks : Walks
 walks =
     record {
-      standing = λ s t.
-          walking s (make-ok s (t .mask) (length (t .o)) (fault-zero s t) .plant) (demand-3-traced .right s t);
-      withdrawn = λ {s} {b} {o} {o′} {d} {d′} {gone} says z.
-          walking s (withdraw-ok s b gone (length o) (length d) (no-fault (says .writes) z) .lent .plant)
-          (demand-2-written .withdrawn says z);
-      withdrawn-list = λ {s} {b} {masks = m} {o} {o′} {d} says z.
-          walking s (lent-ok s b (list-parts s b m (length o) (length d) (no-fault (says .writes) z) .0) .plant)
-          (demand-2-written .withdrawn-list says z);
-      returned = λ {s} {b} {o} {o′} {d} {d′} {back} says z.
-          walking s (withdraw-ok s b back (length o) (length d) (no-fault (says .writes) z) .lent .plant)
-          (demand-2-written .returned says z);
-      made-by = λ {s} {index} {o} {o′} {mask} says z.
-          walking s (by-parts s index _ (no-fault (says .writes) z) .0) (demand-2-written .made-by says z);
-      withdrawn-by = λ {s} {index} {b} says z.
-          walking s (by-parts s index _ (no-fault (says .writes) z) .0) (demand-2-written .withdrawn-by says z);
+      standing = λ s t. walking-by s (standing t);
+      withdrawn = λ {s} says z. walking-by s (withdrawn says z);
+      withdrawn-list = λ {s} says z. walking-by s (withdrawn-list says z);
+      returned = λ {s} says z. walking-by s (returned says z);
+      made-by = λ {s} says z. walking-by s (made-by says z);
+      withdrawn-by = λ {s} says z. walking-by s (withdrawn-by says z);
       same-advice = λ {b} {x} {i} says z k again.
           determined .consult (consult-again b x i (fine-said says z k) (rw (seek-said says z k) at again)) says;
       same-mask = λ {s} {b} {x} {i} says z k asked again.

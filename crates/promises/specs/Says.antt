@@ -10,13 +10,14 @@ use Rattle.promises.specs.declared.Advice.{Advice}
 use Rattle.promises.specs.declared.Answer.{Answer}
 use Rattle.promises.specs.declared.Cost.{Cost}
 use Rattle.promises.specs.declared.Mask.{Mask}
+use Rattle.promises.specs.declared.Stepped.{Stepped}
 use Rattle.statements.specs.Sets.{pick, over, isIn}
-use Rattle.statements.specs.Plants.{words, plantOf}
+use Rattle.statements.specs.Plants.{firstOf, words, plantOf, ends}
 use Rattle.statements.specs.Books.{bytesOf, bookCount, rowPlace, waitAt, moveAt, isLost, arrive, goodMoves}
 use Rattle.statements.specs.Books.{withdrawnBook, droppedStates}
 use Rattle.statements.specs.Index.{indexBytes}
-use Rattle.statements.specs.Calls.{indexingFault, consultFault, movesFault, previewFault, rowPart, Ask, makes}
-use Rattle.statements.specs.Calls.{withdraws, withdrawsList, returns, makesBy, withdrawsBy, effectOf}
+use Rattle.statements.specs.Calls.{indexingFault, numberFault, consultFault, movesFault, previewFault, rowPart, Ask}
+use Rattle.statements.specs.Calls.{makes, withdraws, withdrawsList, returns, makesBy, withdrawsBy, effectOf}
 use Rattle.statements.specs.Demands.{Rising}
 
 -- a call on a book is accepted
@@ -42,6 +43,34 @@ pub record ConsultSays (b : List ℕ) (x i : ℕ) (r : Advice) : Type 0 where
 pub record MovesSays (s b : List ℕ) (x i : ℕ) (r : Mask) : Type 0 where
   pub number : r .number ≡ movesFault s b x i
   pub mask : r .mask ≡ pick (eqb (r .number) 0) (goodMoves (plantOf s) b x (arrive b x i)) 0
+
+-- advice for a state x of a book b and the goal i sought, from a call with a number of its own: accepted, it says lost,
+-- or gives the move and the wait of the goal arrived at, and that goal; every field that is not given is 0
+pub record Advises (number-is : ℕ) (b : List ℕ) (x i : ℕ) (r : Advice) : Type 0 where
+  pub number : r .number ≡ number-is
+  pub lost : r .lost ≡ (eqb number-is 0 && isLost b x)
+  pub action : r .action ≡ pick (eqb number-is 0 && not (isLost b x)) (moveAt b x (arrive b x i)) 0
+  pub wait : r .wait ≡ pick (eqb number-is 0 && not (isLost b x)) (waitAt b x (arrive b x i)) 0
+  pub seek : r .seek ≡ pick (eqb number-is 0 && not (isLost b x)) (arrive b x i) 0
+
+-- consulting with the plant's bytes s lent too: plant and book are checked as in withdraw, so the number is 1 to 5, 8 or
+-- 0; the advice is that of consult
+abbrev pub ConsultPlantSays : List ℕ → List ℕ → ℕ → ℕ → Advice → Type 0
+ConsultPlantSays s b x i r = Advises (movesFault s b x i) b x i r
+
+-- what consulting a step answers: 1 to 5, 8 for the state x and the goal i sought in it, 8 for the state y that followed,
+-- or 0
+unfoldable pub stepFault : List ℕ → List ℕ → ℕ → ℕ → ℕ → ℕ
+stepFault s b x i y = firstOf (movesFault s b x i) (numberFault b y 0)
+
+-- consulting a step with the plant's bytes s and a book b: the advice for x and the goal i sought; whether y is the end
+-- of an arrow of the move that it gives, which a lost state has not; and the advice for y, where the goal that the first
+-- gives is sought
+pub record StepSays (s b : List ℕ) (x i y : ℕ) (r : Stepped) : Type 0 where
+  pub here : Advises (movesFault s b x i) b x i (r .here)
+  pub leads : r .leads ≡
+      (eqb (stepFault s b x i y) 0 && (not (isLost b x) && isIn y (ends (plantOf s) x (moveAt b x (arrive b x i)))))
+  pub next : Advises (stepFault s b x i y) b y (r .here .seek) (r .next)
 
 -- where in a book b the row of state x starts; 0 when refused
 unfoldable pub rowStart : List ℕ → ℕ → ℕ
@@ -131,6 +160,9 @@ pub record Listed : Type 0 where
 -- afterwards
 pub record Determined : Type 0 where
   pub consult : {b : List ℕ} {x i : ℕ} {r r′ : Advice} → ConsultSays b x i r → ConsultSays b x i r′ → r ≡ r′
+  pub consult-plant : (s : List ℕ) {b : List ℕ} {x i : ℕ} {r r′ : Advice} → ConsultPlantSays s b x i r →
+      ConsultPlantSays s b x i r′ → r ≡ r′
+  pub step : {s b : List ℕ} {x i y : ℕ} {r r′ : Stepped} → StepSays s b x i y r → StepSays s b x i y r′ → r ≡ r′
   pub moves : {s b : List ℕ} {x i : ℕ} {r r′ : Mask} → MovesSays s b x i r → MovesSays s b x i r′ → r ≡ r′
   pub writes : {s b : List ℕ} {ask : Ask} {o o′ o″ d d′ d″ : List ℕ} {r r′ : Answer} →
       Says s b ask o o′ d d′ r → Says s b ask o o″ d d″ r′ → (r ≡ r′) × (o′ ≡ o″) × (d′ ≡ d″)

@@ -34,3 +34,11 @@ pub struct Mask {
     pub number: u8,
     pub mask: u32,
 }
+
+// What consulting a step answers: the advice for the state in which it begins, whether the move advised there may lead
+// to the state that followed, and the advice for that one, where the goal of the first is sought.
+pub struct Stepped {
+    pub here: Advice,
+    pub leads: bool,
+    pub next: Advice,
+}

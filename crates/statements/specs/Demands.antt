@@ -174,6 +174,9 @@ pub record Arriving : Type 0 where
   pub itself : (n i : ℕ) → i < n → goalAfter n i 0 ≡ i
   pub next : (n i k : ℕ) → suc (goalAfter n i k) < n → goalAfter n i (suc k) ≡ suc (goalAfter n i k)
   pub after-last : (n i k : ℕ) → suc (goalAfter n i k) ≡ n → goalAfter n i (suc k) ≡ 0
+  -- it is a goal, and each goal is some places on
+  pub in-range : (n i k : ℕ) → i < n → goalAfter n i k < n
+  pub each : (n i j : ℕ) → i < n → j < n → (k : ℕ) × (k < n) × (goalAfter n i k ≡ j)
   -- if k goals from the sought one on are served, and the next is not, that is the goal arrived at
   pub until : (b : List ℕ) (x i k : ℕ) → i < bookGoals b → k < bookGoals b →
       ((j : ℕ) → j < k → waitAt b x (goalAfter (bookGoals b) i j) ≡ 0) →
@@ -187,6 +190,10 @@ pub record Arriving : Type 0 where
   -- it is served only if all goals are
   pub all-served : (b : List ℕ) (x i j : ℕ) → i < bookGoals b → j < bookGoals b → waitAt b x (arrive b x i) ≡ 0 →
       waitAt b x j ≡ 0
+  -- where the sought goal is served, a goal some places after it is served too, or comes sooner after the one arrived at
+  pub sooner : (b : List ℕ) (x i j k : ℕ) → i < bookGoals b → k < bookGoals b → goalAfter (bookGoals b) i k ≡ j →
+      waitAt b x i ≡ 0 →
+      (waitAt b x j ≡ 0) ⊎ ((m : ℕ) × (m < k) × (goalAfter (bookGoals b) (arrive b x i) m ≡ j))
   -- to arrive again from the goal arrived at changes nothing
   pub idempotent : (b : List ℕ) (x i : ℕ) → i < bookGoals b → arrive b x (arrive b x i) ≡ arrive b x i
 

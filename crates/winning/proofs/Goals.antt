@@ -1,7 +1,7 @@
 -- The goal arrived at: it is the first that is not served, from the sought one on in turn, or the sought one if all are
 -- served; to arrive again changes nothing; and passing a goal comes nearer to every other that is not served.
 -- Assumes nothing.
-use mathlib.Core.Path.{_≡_, ap, _∙_}
+use mathlib.Core.Path.{_≡_, sym, ap, _∙_}
 use mathlib.Core.Logic.{_⊎_, inl, inr}
 use mathlib.Core.Bool.{Bool, true, not}
 use mathlib.Core.List.{List}
@@ -73,6 +73,16 @@ after-ahead n s i hs hi =
     elim (decLt i s) [
       | yes l ↦ rw (ahead-round n s i l) (omega (arith, after-round n s (i + n - s) (omega arith) (omega arith)))
       | no l ↦ rw (ahead-on n s i (omega arith)) (omega (arith, after-on n s (i - s) (omega arith)))
+    ]
+
+-- and no other number of places below that of all goals
+ahead-only : (n s i k : ℕ) → s < n → k < n → goalAfter n s k ≡ i → ahead n s i ≡ k
+ahead-only n s i k hs hk e =
+    elim (decLt (s + k) n) [
+      | yes l ↦ omega (arith, after-on n s k l, ahead-on n s i (omega (arith, after-on n s k l)))
+      | no l ↦
+          let there = after-round n s k (omega arith) (omega arith) in
+          omega (arith, there, ahead-round n s i (omega (arith, there)))
     ]
 
 -- from a goal k places on, no more than goal i is, it is k places less
@@ -207,6 +217,23 @@ module _ (b : List ℕ) (x i : ℕ) where
           | no l ↦ inl (omega arith)
         ]
 
+    -- so it comes sooner in turn
+    arrive-sooner :
+        (j k : ℕ) → k < bookGoals b → goalAfter (bookGoals b) i k ≡ j → waitAt b x i ≡ 0 →
+        (waitAt b x j ≡ 0) ⊎ ((m : ℕ) × (m < k) × (goalAfter (bookGoals b) (arrive b x i) m ≡ j))
+    arrive-sooner j k hk e w =
+        let n = bookGoals b in
+        let hj : j < n = rw (sym e) (after-below n i k hi) in
+        elim (nears j hj w) [
+          | inl z ↦ inl z
+          | inr l ↦
+              inr (
+                ahead n (arrive b x i) j,
+                omega (arith, l, ahead-only n i j k hi hk e),
+                after-ahead n (arrive b x i) j arrive-below hj,
+              )
+        ]
+
 -- to arrive again changes nothing
 pub arrive-again : (b : List ℕ) (x i : ℕ) → i < bookGoals b → arrive b x (arrive b x i) ≡ arrive b x i
 arrive-again b x i hi =
@@ -222,10 +249,13 @@ arriving =
       itself = after-none;
       next = after-next;
       after-last = after-last;
+      in-range = after-below;
+      each = λ n i j hi hj. (ahead n i j, ahead-below n i j hi hj, after-ahead n i j hi hj);
       until = λ b x i k hi. arrive-until b x i hi k;
       stays = arrive-stays;
       goal = arrive-below;
       passed = passes-served;
       all-served = λ b x i j hi. arrive-all-served b x i hi j;
+      sooner = λ b x i j k hi. arrive-sooner b x i hi j k;
       idempotent = arrive-again;
     }

@@ -1,0 +1,1 @@
+-- Marked answers of the desk.
