@@ -1,7 +1,8 @@
-//! The calls over slices, with the C interface's answers: one trait for the eleven of a planner and one for the gauge,
-//! which the proved library and the second solvers implement, so that tests and benchmarks treat them alike.
+//! The calls over slices, with the C interface's answers: one trait for the eleven of a planner, one for the gauge and
+//! one for the two of a desk, which the proved library and the second solvers, gauges and desks implement, so that
+//! tests and benchmarks treat them alike.
 
-use crate::sys::{Advice, Answer, Cost, Mask, Part, Place};
+use crate::sys::{Advice, Answer, Cost, Desk, Mask, Part, Place};
 
 /// A planner: make, withdraw and row as document 01 has them, and moves, preview, consult, the list of withdrawals, the
 /// return of moves and the three calls for an index as requests (i), (iv), (v), (vi), (vii) and (viii) of document 02
@@ -80,6 +81,27 @@ pub trait Gauges {
     /// The state of the band that holds the deviation, which is the reading less the aim; `states` is S, which every
     /// band's state must be below.
     fn gauge(&self, lists: Lists, states: u32, reading: f64, aim: f64) -> Place;
+}
+
+/// What a desk holds between two reports, as it is handed in.
+#[derive(Clone, Copy, Debug, PartialEq, Eq)]
+pub struct Held {
+    /// The state.
+    pub state: u32,
+    /// The goal.
+    pub goal: u32,
+}
+
+/// The mill desk, as request (xii) of document 02 has it, on raw bytes. It keeps nothing itself.
+pub trait Desks {
+    /// A short name for tables and messages.
+    fn name(&self) -> &'static str;
+
+    /// Starts in a state, seeking goal 0.
+    fn start(&self, plant: &[u8], book: &[u8], state: u32) -> Desk;
+
+    /// Is told the state that followed the move given for what is held.
+    fn report(&self, plant: &[u8], book: &[u8], held: Held, reported: u32) -> Desk;
 }
 
 /// The bytes of a list of masks: four for each, the low one first.
@@ -255,6 +277,33 @@ impl Gauges for Linked {
                 states,
                 reading,
                 aim,
+            )
+        }
+    }
+}
+
+#[cfg(feature = "linked")]
+impl Desks for Linked {
+    fn name(&self) -> &'static str {
+        "planbook"
+    }
+
+    fn start(&self, plant: &[u8], book: &[u8], state: u32) -> Desk {
+        // SAFETY: each pointer and length is a slice's own.
+        unsafe { crate::sys::planbook_start(plant.as_ptr(), plant.len(), book.as_ptr(), book.len(), state) }
+    }
+
+    fn report(&self, plant: &[u8], book: &[u8], held: Held, reported: u32) -> Desk {
+        // SAFETY: each pointer and length is a slice's own.
+        unsafe {
+            crate::sys::planbook_report(
+                plant.as_ptr(),
+                plant.len(),
+                book.as_ptr(),
+                book.len(),
+                held.state,
+                held.goal,
+                reported,
             )
         }
     }

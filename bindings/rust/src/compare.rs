@@ -10,6 +10,7 @@ use crate::calls::Calls;
 use crate::second::format::{in_mask, number, read_masks, together, BookView, Plant, LOST};
 use crate::sys::{Advice, Answer, Cost, Mask, Part, LONGEST_BOOK, LONGEST_INDEX, LONGEST_LIST};
 
+pub mod desks;
 pub mod gauges;
 pub mod rounds;
 

@@ -12,16 +12,17 @@
 //! An [`Index`] lists a plant's arrows by where they end. Kept beside the plant, it lets make and withdraw strike
 //! states out without reading all arrows again in every round; the books are the same.
 //!
-//! [`Bands`] turn what a thickness gauge reads into a state of the plant.
+//! [`Bands`] turn what a thickness gauge reads into a state of the plant, and a [`Desk`] follows a book from state to
+//! state.
 //!
-//! With the feature `linked`, which is on by default, [`Book`], [`Index`], [`Bands`] and the functions [`make_into`],
-//! [`withdraw_into`], [`withdraw_list_into`], [`return_into`], [`index_into`], [`make_indexed_into`],
+//! With the feature `linked`, which is on by default, [`Book`], [`Index`], [`Bands`], [`Desk`] and the functions
+//! [`make_into`], [`withdraw_into`], [`withdraw_list_into`], [`return_into`], [`index_into`], [`make_indexed_into`],
 //! [`withdraw_indexed_into`], [`preview_into`], [`consult`], [`row`] and [`good_moves`] call the proved library. They
 //! take slices, answer a [`Result`] with a [`Refusal`], and need no `unsafe` in the caller's code.
 //!
 #![cfg_attr(feature = "linked", doc = "```")]
 #![cfg_attr(not(feature = "linked"), doc = "```ignore")]
-//! use planbook::{Advice, Band, Bands, Book, End, Index};
+//! use planbook::{Advice, Band, Bands, Book, Desk, End, Index};
 //!
 //! // Strip plant P: 4 states, 3 moves, 2 goals, 8 arrows.
 //! let plant = planbook::plants::strip().bytes();
@@ -67,10 +68,15 @@
 //! ]);
 //! assert_eq!(bands.place(3, 1.25, 2.0)?, Some(0));
 //! assert_eq!(bands.place(3, 1.5, 2.0)?, Some(1));
+//!
+//! // The desk gives the move, is told the state that followed, and goes on from there.
+//! let book = Book::make(&plant, 0b111)?;
+//! let desk = Desk::start(&book, 0)?.report(&book, 1)?;
+//! assert_eq!(desk.advice(), Advice::Move { action: 0, wait: 1, seek: 1 });
 //! # Ok::<(), planbook::Refusal>(())
 //! ```
 //!
-//! The rest of the crate is for checking: [`second`] has solvers and gauges made by other means, [`plants`] generates
+//! The rest of the crate is for checking: [`second`] has solvers, gauges and desks made by other means, [`plants`] generates
 //! plants, [`calls`] puts the library and what is made by other means behind the same traits, and [`compare`] holds two
 //! of them against each other, byte for byte.
 
@@ -94,6 +100,10 @@ pub use book::{consult, good_moves, index_into, make_indexed_into, make_into, pr
 pub use book::{withdraw_indexed_into, withdraw_into, withdraw_list_into};
 #[cfg(feature = "linked")]
 pub use book::{Advice, Book, Cost, Entry, Index, Preview, Returned, Withdrawn};
+#[cfg(feature = "linked")]
+mod desk;
+#[cfg(feature = "linked")]
+pub use desk::Desk;
 #[cfg(feature = "linked")]
 mod gauge;
 #[cfg(feature = "linked")]

@@ -2,9 +2,9 @@
 
 use std::fmt;
 
-/// The numbers 1 to 12 that a call may return in the place of a result. A refused call writes nothing. Where several
+/// The numbers 1 to 13 that a call may return in the place of a result. A refused call writes nothing. Where several
 /// apply the lowest is returned, but for 9, which comes straight before 6, and 10, which comes straight after 3.
-/// 11 and 12 are of the gauge, which has no others.
+/// 11 and 12 are of the gauge, which has no others, and 13 is of the desk alone.
 #[derive(Clone, Copy, Debug, PartialEq, Eq, Hash)]
 #[non_exhaustive]
 pub enum Refusal {
@@ -22,7 +22,7 @@ pub enum Refusal {
     Mask,
     /// 7: a buffer is too short.
     Buffer,
-    /// 8: the state or the goal asked for is not in the book.
+    /// 8: a state, asked for, held or reported, or the goal is not in the book.
     OutOfBook,
     /// 9: the list of masks is not whole, or too long.
     MaskList,
@@ -32,12 +32,14 @@ pub enum Refusal {
     Bands,
     /// 12: the reading, the aim or the deviation is not finite.
     Reading,
+    /// 13: the state reported cannot follow the move given in the state held, or the state held is lost in the book.
+    Report,
     /// A number that this version of the wrapper does not know.
     Other(u32),
 }
 
 /// The refusals by their number, from 1 on, with what was wrong, where, and what to do.
-const KNOWN: [(Refusal, &str); 12] = [
+const KNOWN: [(Refusal, &str); 13] = [
     (
         Refusal::PlantHeader,
         "the plant's header is not valid or its length is not the one its header says (plant, bytes 0 to 15): lend \
@@ -78,7 +80,8 @@ const KNOWN: [(Refusal, &str); 12] = [
     ),
     (
         Refusal::OutOfBook,
-        "the state or the goal is not in the book (state, goal): ask for a state below S and a goal below N",
+        "the state, asked for, held or reported, or the goal is not in the book (state, goal): hand in states below S and a \
+         goal below N",
     ),
     (
         Refusal::MaskList,
@@ -100,6 +103,12 @@ const KNOWN: [(Refusal, &str); 12] = [
         Refusal::Reading,
         "the reading, the aim or the reading less the aim is infinite or undefined (reading, aim): hand in finite \
          numbers of millimetres, and look at the gauge",
+    ),
+    (
+        Refusal::Report,
+        "the state held is lost in this book, or no arrow of the move given there ends in the state reported (state \
+         reported; state and goal held): the desk holds what it held; look which state the line is in and whether this \
+         is the book that gave the move, and report again, or start anew where the line is",
     ),
 ];
 
@@ -124,6 +133,7 @@ impl Refusal {
             Refusal::Index => 10,
             Refusal::Bands => 11,
             Refusal::Reading => 12,
+            Refusal::Report => 13,
             Refusal::Other(number) => number,
         }
     }
@@ -154,7 +164,7 @@ mod tests {
         for number in 0..20 {
             let refusal = Refusal::from_number(number);
             assert_eq!(refusal.number(), number);
-            assert_eq!(matches!(refusal, Refusal::Other(_)), !(1..=12).contains(&number));
+            assert_eq!(matches!(refusal, Refusal::Other(_)), !(1..=13).contains(&number));
             assert!(refusal.to_string().starts_with(&format!("refused {number}: ")));
         }
     }

@@ -1,8 +1,9 @@
 //! The C interface as it is declared in `include/planbook.h`: the longest buffers, its answers, and with the feature
-//! `linked` its twelve functions. The functions are unsafe to call; [`crate::make_into`] and its neighbours and
-//! [`crate::Bands`] are the safe way.
+//! `linked` its fourteen functions. The functions are unsafe to call; [`crate::make_into`] and its neighbours,
+//! [`crate::Bands`] and [`crate::Desk`] are the safe way.
 //!
-//! A refused answer has its number and 0 in every other field, and so has a lost one beside its `lost`.
+//! A refused answer has its number and 0 in every other field, and so has a lost one beside its `lost`; but a desk's
+//! has what is held, unless a start is refused.
 
 /// The longest book, one with stages: 16 + 2S + 4SN bytes for S 1,024 and N 8 (`PLANBOOK_BOOK_MAX` in C).
 pub const LONGEST_BOOK: usize = 16 + 2 * 1024 + 4 * 1024 * 8;
@@ -100,6 +101,27 @@ pub struct Place {
     pub state: u32,
 }
 
+/// What the desk answers: what to do in the state that it is in now, and what it holds from then on.
+#[repr(C)]
+#[derive(Clone, Copy, Debug, Default, PartialEq, Eq)]
+pub struct Desk {
+    /// 0, or the number of the refusal.
+    pub number: u32,
+    /// 1 if the state is lost; move, wait and goal arrived at are then 0.
+    pub lost: u32,
+    /// The move to make for the goal arrived at (`move` in C).
+    pub action: u32,
+    /// At most so many moves until the goal arrived at is met, as in [`Advice`].
+    pub wait: u32,
+    /// The goal arrived at.
+    pub seek: u32,
+    /// The state held: the one started in or reported. A refused report has the one handed in, a refused start 0.
+    pub state: u32,
+    /// The goal held: the one arrived at, in a lost state the one sought. A refused report has the one handed in, a
+    /// refused start 0.
+    pub goal: u32,
+}
+
 macro_rules! refused {
     ($($answer:ident),*) => {$(
         impl $answer {
@@ -110,7 +132,7 @@ macro_rules! refused {
         }
     )*};
 }
-refused!(Answer, Cost, Advice, Part, Mask, Place);
+refused!(Answer, Cost, Advice, Part, Mask, Place, Desk);
 
 #[cfg(feature = "linked")]
 extern "C" {
@@ -123,8 +145,8 @@ extern "C" {
     /// Writes the book with the moves of `mask` withdrawn, and the states dropped.
     ///
     /// # Safety
-    /// Each pointer is good for its length, to read (`plant`, `book`) or to write (`out`, `drops`), and those written do
-    /// not overlap with any other.
+    /// Each pointer is good for its length, to read (`plant`, `book`) or to write (`out`, `drops`), and those written
+    /// do not overlap with any other.
     pub fn planbook_withdraw(
         plant: *const u8,
         plant_len: usize,
@@ -268,4 +290,24 @@ extern "C" {
         reading: f64,
         aim: f64,
     ) -> Place;
+
+    /// The desk starts to follow a book in a state, seeking goal 0.
+    ///
+    /// # Safety
+    /// `plant` is good to read for `plant_len` bytes, and `book` for `book_len`.
+    pub fn planbook_start(plant: *const u8, plant_len: usize, book: *const u8, book_len: usize, state: u32) -> Desk;
+
+    /// The desk that holds a state and a goal is told which state followed the move that it gave.
+    ///
+    /// # Safety
+    /// `plant` is good to read for `plant_len` bytes, and `book` for `book_len`.
+    pub fn planbook_report(
+        plant: *const u8,
+        plant_len: usize,
+        book: *const u8,
+        book_len: usize,
+        held_state: u32,
+        held_goal: u32,
+        reported: u32,
+    ) -> Desk;
 }

@@ -1,4 +1,5 @@
-//! The proved library against the worklist solver, byte for byte, and against the exact gauge. Needs the archive.
+//! The proved library against the worklist solver, byte for byte, against the exact gauge and against the second desk.
+//! Needs the archive.
 //!
 //! PLANBOOK_CALLS sets how many calls of each random kind are compared; the binary `soak` runs longer still.
 
@@ -8,10 +9,11 @@ mod document;
 mod promises;
 
 use planbook::calls::Linked;
+use planbook::compare::desks::{self, DeskComparison};
 use planbook::compare::gauges::{self, GaugeComparison};
 use planbook::compare::{rounds, Comparison};
 use planbook::plants::{Family, Random, FAMILIES, WAYS_TO_SETTLE};
-use planbook::second::{gauge::Exact, Fast};
+use planbook::second::{desk, gauge::Exact, Fast};
 
 /// Where the seeds of the random rounds begin.
 const SEED: u64 = 1;
@@ -43,6 +45,7 @@ fn documents_01_and_02() {
     document::index::books_by_index(&Linked);
     document::index::refusals(&Linked);
     document::gauge::all(&Linked);
+    document::desk::all(&Linked);
 }
 
 /// A test for each promise.
@@ -104,6 +107,56 @@ fn random_rounds_of_the_gauge() {
         counts = std::array::from_fn(|at| counts[at] + comparison.counts()[at]);
     }
     assert!(counts.iter().all(|&many| many > calls / 20), "{counts:?} calls of the gauge");
+}
+
+#[test]
+fn exhaustive_rounds_of_the_desk() {
+    let mut comparison = DeskComparison::new(&Linked, &desk::Plain, &Linked);
+    for round in desks::rounds::EXHAUSTIVE_ROUNDS {
+        round(&mut comparison);
+    }
+    println!("{}", comparison.summary());
+}
+
+/// All families, with as many states as there can be among them.
+#[test]
+fn walks_of_the_desk() {
+    let mut comparison = DeskComparison::new(&Linked, &desk::Plain, &Linked);
+    for family in FAMILIES {
+        for states in family.quick_sizes(&[2, 31, 64, 300]) {
+            desks::rounds::walk_family(&mut comparison, family, states, 1_000);
+        }
+    }
+    for family in [Family::Ring, Family::LadderRing, Family::Grid, Family::Chain] {
+        desks::rounds::walk_family(&mut comparison, family, 1024, 1_500);
+    }
+    println!("{}", comparison.summary());
+    let walked = comparison.walked();
+    assert!(walked.longest > 500 && walked.just > 2_000 && walked.anew > 300 && walked.met > 2_000, "{walked:?}");
+}
+
+#[test]
+fn random_rounds_of_the_desk() {
+    let calls = calls_of_a_kind();
+    // In all rounds together, each refusal, each sort of answer, and on walks goals met, just in time, passed and
+    // sought anew, and books of each call that writes one.
+    let (mut refused, mut counts, mut walked, mut ways) = ([0; 7], [0; 10], [0; 6], [0; 6]);
+    for (name, round) in desks::rounds::RANDOM_ROUNDS {
+        let mut comparison = DeskComparison::new(&Linked, &desk::Plain, &Linked);
+        let rounds = rounds::run(&mut comparison, round, SEED, calls);
+        println!("{name}, {rounds} rounds from seed {SEED}: {}", comparison.summary());
+        refused = std::array::from_fn(|at| refused[at] + comparison.refused()[at]);
+        counts = std::array::from_fn(|at| counts[at] + comparison.counts()[at]);
+        let walks = comparison.walked();
+        let seen = [walks.steps, walks.met, walks.just, walks.passed, walks.all_met, walks.anew];
+        walked = std::array::from_fn(|at| walked[at] + seen[at]);
+        ways = std::array::from_fn(|at| ways[at] + walks.ways[at]);
+    }
+    println!("refused {refused:?}, answers {counts:?}, on walks {walked:?}, walks by books of each call {ways:?}");
+    assert!(refused.iter().all(|&many| many > calls / 20), "{refused:?} refused");
+    assert!(counts.iter().all(|&many| many > calls / 100), "{counts:?} answers");
+    assert!(walked.iter().all(|&many| many > calls / 50), "{walked:?} on walks");
+    assert!(ways.iter().all(|&many| many > calls / 2_000), "{ways:?} walks");
 }
 
 #[test]

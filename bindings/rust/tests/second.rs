@@ -1,5 +1,5 @@
 //! The second solvers against document 01 and against each other: brute force, sweeps and worklist; and the second
-//! gauges. Needs no archive.
+//! gauges and desks. Needs no archive.
 
 #![deny(warnings)]
 
@@ -7,12 +7,13 @@ mod document;
 mod promises;
 
 use planbook::calls::{mask_bytes, Calls};
+use planbook::compare::desks::{self, DeskComparison};
 use planbook::compare::gauges::{self, rounds::beside, rounds::special_floats, GaugeComparison};
 use planbook::compare::{rounds, Comparison};
 use planbook::plants::{self, Family, Model, Random, FAMILIES, WAYS_TO_SETTLE};
 use planbook::second::format::{index_bytes, number, read_index, BookView, Plant};
 use planbook::second::gauge::{self, deviation, Steps};
-use planbook::second::{effort, Brute, Fast, Plain};
+use planbook::second::{desk, effort, Brute, Fast, Plain};
 use planbook::Refusal;
 
 #[test]
@@ -340,6 +341,25 @@ fn gauges() {
         rounds::run(&mut comparison, round, 1, 20_000);
     }
     println!("{}", comparison.summary());
+}
+
+/// The desk in the documents' words against the documents, and the one that is written for speed against it.
+#[test]
+fn desks() {
+    document::desk::all(&desk::Plain);
+    document::desk::all(&desk::Fast);
+    let mut comparison = DeskComparison::new(&desk::Fast, &desk::Plain, &Fast);
+    for round in desks::rounds::EXHAUSTIVE_ROUNDS {
+        round(&mut comparison);
+    }
+    for (_, round) in desks::rounds::RANDOM_ROUNDS {
+        rounds::run(&mut comparison, round, 7_000_000, 30_000);
+    }
+    for family in FAMILIES {
+        desks::rounds::walk_family(&mut comparison, family, 64, 400);
+    }
+    println!("{}", comparison.summary());
+    assert!(comparison.refused().iter().chain(&comparison.counts()).all(|&many| many > 1_000));
 }
 
 /// A whole number of steps is what a float is told from: order, difference and rounding of the machine's floats are

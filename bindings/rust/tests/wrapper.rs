@@ -4,7 +4,7 @@
 
 use planbook::{consult, good_moves, index_into, make_indexed_into, make_into, plants, preview_into, return_into};
 use planbook::{row, withdraw_indexed_into, withdraw_into, withdraw_list_into};
-use planbook::{Advice, Band, Bands, Book, Cost, End, Entry, Index, Preview, Refusal, Returned, Withdrawn};
+use planbook::{Advice, Band, Bands, Book, Cost, Desk, End, Entry, Index, Preview, Refusal, Returned, Withdrawn};
 
 #[test]
 fn a_book_owns_its_bytes_and_the_plant() {
@@ -408,4 +408,73 @@ fn bands_are_counted_by_the_library() {
         assert_eq!(table.place(count, f64::from(count) - 0.5, 0.0), told, "{count} bands");
     }
     assert_eq!(Bands::default().place(1, 0.0, 0.0), Err(Refusal::Bands));
+}
+
+/// A desk follows M1's book of P, is told wrong, and goes on.
+#[test]
+fn a_desk_follows_the_book() {
+    let book = Book::make(&plants::strip().bytes(), 7).expect("P is a plant");
+    let shown = |action, wait, seek| Advice::Move { action, wait, seek };
+    let desk = Desk::start(&book, 0).expect("a state of P");
+    assert_eq!((desk.advice(), desk.state(), desk.goal()), (shown(0, 2, 1), 0, 1));
+    // A refused report consumes nothing: the same desk is told again.
+    assert_eq!((desk.report(&book, 2), desk.report(&book, 3)), (Err(Refusal::Report), Err(Refusal::Report)));
+    assert_eq!(
+        (desk.report(&book, 4), desk.report(&book, u16::MAX)),
+        (Err(Refusal::OutOfBook), Err(Refusal::OutOfBook))
+    );
+    let next = desk.report(&book, 1).expect("move 0 leads there");
+    assert_eq!((next.advice(), next.state(), next.goal()), (shown(0, 1, 1), 1, 1));
+    assert_eq!(desk, Desk::start(&book, 0).expect("a state of P")); // as it was
+    let last = next.report(&book, 2).expect("move 0 leads there");
+    assert_eq!((last.advice(), last.state(), last.goal()), (shown(0, 1, 0), 2, 0));
+    assert_eq!(last.report(&book, 0), Ok(desk)); // round
+
+    for desk in [desk, next, last] {
+        assert_eq!(Desk::resume(&book, desk.state(), desk.goal()), Ok(desk));
+    }
+    assert_eq!(Desk::start(&book, 4), Err(Refusal::OutOfBook));
+    assert_eq!(
+        (Desk::resume(&book, 4, 0), Desk::resume(&book, 0, 2)),
+        (Err(Refusal::OutOfBook), Err(Refusal::OutOfBook))
+    );
+}
+
+/// Lost states are held and shown as lost, and no report follows them.
+#[test]
+fn a_desk_is_lost() {
+    let m1 = Book::make(&plants::strip().bytes(), 7).expect("P is a plant");
+    let desk = Desk::start(&m1, 3).expect("a state of P");
+    assert_eq!((desk.advice(), desk.state(), desk.goal()), (Advice::Lost, 3, 0));
+    for state in 0..4 {
+        assert_eq!(desk.report(&m1, state), Err(Refusal::Report));
+    }
+    // In a book nobody made a report may lead there; the goal sought is held.
+    let m9 = m9_book(&m1);
+    let desk = Desk::start(&m9, 0).and_then(|desk| desk.report(&m9, 1)).expect("move 0 leads there");
+    assert_eq!((desk.advice(), desk.state(), desk.goal()), (Advice::Lost, 1, 1));
+    assert_eq!(desk.report(&m9, 2), Err(Refusal::Report));
+    let desk = desk.in_book(&m1).expect("a book of P");
+    assert_eq!(desk.advice(), Advice::Move { action: 0, wait: 1, seek: 1 });
+    assert!(desk.report(&m1, 2).is_ok());
+}
+
+/// Moves go out of service and come back on the way.
+#[test]
+fn a_desk_takes_another_book() {
+    let m1 = Book::make(&plants::strip().bytes(), 7).expect("P is a plant");
+    let (m2, _) = m1.withdraw(4).expect("move 2 exists");
+    let desk = Desk::start(&m1, 1).expect("a state of P");
+    assert_eq!(desk.advice(), Advice::Move { action: 2, wait: 1, seek: 0 });
+    assert_eq!(desk.report(&m2, 0), Err(Refusal::Report)); // in that book it is move 0, which leads to state 2
+    let desk = desk.in_book(&m2).expect("a book of P");
+    assert_eq!(desk.advice(), Advice::Move { action: 0, wait: 2, seek: 0 });
+    let desk = desk.report(&m2, 2).expect("move 0 leads there");
+    assert_eq!((desk.advice(), desk.goal()), (Advice::Move { action: 0, wait: 1, seek: 0 }, 0));
+    // A book for another plant: the desk's state is not in it, or it has other arrows.
+    let other = Book::make(&plants::band().bytes(), 3).expect("a plant");
+    assert_eq!(desk.report(&other, 0), Err(Refusal::Report));
+    assert_eq!(desk.report(&other, 3), Err(Refusal::OutOfBook));
+    let band = Desk::start(&other, 0).and_then(|desk| desk.report(&other, 1)).expect("move 1 leads there");
+    assert_eq!(band.advice(), Advice::Move { action: 0, wait: 0, seek: 1 });
 }

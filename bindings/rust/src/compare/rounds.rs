@@ -11,9 +11,9 @@ use lists::{any_list, masks_in_turn};
 use returns::moves_back;
 
 mod faults;
-mod indexes;
-mod lists;
-mod returns;
+pub(in crate::compare) mod indexes;
+pub(in crate::compare) mod lists;
+pub(in crate::compare) mod returns;
 mod stages;
 
 /// A random round: some calls on inputs that come from the numbers given.
@@ -68,7 +68,7 @@ pub fn run<C: Counts>(comparison: &mut C, round: fn(&mut C, &mut Random), seed: 
 }
 
 /// A plant of any size or family, of either sort.
-fn any_plant(random: &mut Random) -> Model {
+pub(in crate::compare) fn any_plant(random: &mut Random) -> Model {
     let model = if random.once_in(8) {
         let family = FAMILIES[random.below(FAMILIES.len())];
         let most = if family.is_slow() { 40 } else { 160 };
@@ -80,7 +80,7 @@ fn any_plant(random: &mut Random) -> Model {
 }
 
 /// A tiny plant of either sort.
-fn tiny_plant(random: &mut Random) -> Model {
+pub(in crate::compare) fn tiny_plant(random: &mut Random) -> Model {
     match random.once_in(2) {
         true => plants::tiny(random),
         false => plants::tiny_settled(random),
@@ -93,7 +93,7 @@ fn lengths_of(model: &Model) -> [usize; 2] {
 }
 
 /// Moves to have in service: mostly many of them.
-fn many_moves(model: &Model, random: &mut Random) -> u32 {
+pub(in crate::compare) fn many_moves(model: &Model, random: &mut Random) -> u32 {
     let [a, b, c] = [(); 3].map(|()| random.bits() as u32);
     let mask = match random.below(8) {
         0 => a,
@@ -104,7 +104,7 @@ fn many_moves(model: &Model, random: &mut Random) -> u32 {
 }
 
 /// Moves to withdraw: mostly few of them.
-fn few_moves(model: &Model, random: &mut Random) -> u32 {
+pub(in crate::compare) fn few_moves(model: &Model, random: &mut Random) -> u32 {
     let [a, b, c] = [(); 3].map(|()| random.bits() as u32);
     let mask = match random.below(8) {
         0 => a,
@@ -357,7 +357,7 @@ fn good_moves(comparison: &mut Comparison, random: &mut Random) {
 }
 
 /// The plant with its states in the other order.
-fn turned(model: &Model) -> Model {
+pub(in crate::compare) fn turned(model: &Model) -> Model {
     let last = model.labels.len() as u16 - 1;
     let labels = model.labels.iter().rev().copied().collect();
     let arrows = model.arrows.iter().map(|&[from, action, to]| [last - from, action, last - to]).collect();
@@ -365,7 +365,7 @@ fn turned(model: &Model) -> Model {
 }
 
 /// A book with rows that nobody made, and that is accepted all the same. Some rows serve all goals, and some many.
-fn invent_book(model: &Model, random: &mut Random) -> Vec<u8> {
+pub(in crate::compare) fn invent_book(model: &Model, random: &mut Random) -> Vec<u8> {
     let mask = many_moves(model, random);
     let actions: Vec<u16> = (0..32).filter(|action| mask >> action & 1 != 0).collect();
     let often = [1, 2, 4, 8, 16, 32, 64, 128][random.below(8)];
@@ -454,7 +454,7 @@ pub fn each_move_in_turn(comparison: &mut Comparison, model: &Model) {
 }
 
 /// Some bytes changed, cut off or added.
-fn damage(bytes: &mut Vec<u8>, random: &mut Random) {
+pub(in crate::compare) fn damage(bytes: &mut Vec<u8>, random: &mut Random) {
     match random.below(8) {
         0 => bytes.truncate(random.below(bytes.len() + 1)),
         1 => bytes.extend((0..random.from_to(1, 9)).map(|_| random.bits() as u8)),
@@ -472,7 +472,7 @@ fn damage(bytes: &mut Vec<u8>, random: &mut Random) {
 }
 
 /// One bit of one label changed, or the last number of the header.
-fn change_sort(plant: &mut [u8], random: &mut Random) {
+pub(in crate::compare) fn change_sort(plant: &mut [u8], random: &mut Random) {
     if random.once_in(3) {
         let last = [0, 1, 2, 3, 256, 257][random.below(6)];
         plant[14..16].copy_from_slice(&u16::to_le_bytes(last));
@@ -603,12 +603,12 @@ fn with_book(comparison: &mut Comparison, model: &Model) -> (Vec<u8>, Vec<u8>) {
 }
 
 /// Strip plant P, and a small plant that must settle.
-fn both_sorts() -> [Model; 2] {
+pub(in crate::compare) fn both_sorts() -> [Model; 2] {
     [plants::strip(), plants::band()]
 }
 
 /// M9's book, which nobody made: M1's with row 1 lost.
-fn m9_book(m1_book: &[u8]) -> Vec<u8> {
+pub(in crate::compare) fn m9_book(m1_book: &[u8]) -> Vec<u8> {
     let mut book = m1_book.to_vec();
     book[6] = 2;
     book[24..32].fill(0xff);
@@ -616,7 +616,7 @@ fn m9_book(m1_book: &[u8]) -> Vec<u8> {
 }
 
 /// The bytes with one of them changed to every other value, byte by byte.
-fn with_one_changed(bytes: &[u8]) -> impl Iterator<Item = Vec<u8>> + '_ {
+pub(in crate::compare) fn with_one_changed(bytes: &[u8]) -> impl Iterator<Item = Vec<u8>> + '_ {
     let others = move |at: usize| (0..=255).filter(move |&value| value != bytes[at]).map(move |value| (at, value));
     (0..bytes.len()).flat_map(others).map(|(at, value)| {
         let mut bytes = bytes.to_vec();
@@ -667,7 +667,7 @@ fn look_everywhere(comparison: &mut Comparison, plant: &[u8], book: &[u8], model
 }
 
 /// The bytes cut off at a length, or with bytes of 0 added up to it.
-fn of_length(bytes: &[u8], length: usize) -> Vec<u8> {
+pub(in crate::compare) fn of_length(bytes: &[u8], length: usize) -> Vec<u8> {
     let mut bytes = bytes.to_vec();
     bytes.resize(length, 0);
     bytes
@@ -773,7 +773,7 @@ fn every_call_once(comparison: &mut Comparison, plant: &[u8], mask: u32) {
 }
 
 /// A plant with exactly these counts: every state allowed and in every goal, and arrows spread evenly.
-fn filled(states: u16, moves: u16, goals: u16, arrows: u16) -> Model {
+pub(in crate::compare) fn filled(states: u16, moves: u16, goals: u16, arrows: u16) -> Model {
     let label = ((1u32 << (goals + 1)) - 1) as u16;
     let arrow = |number: u16| {
         let (from, lap) = (number % states, number / states);

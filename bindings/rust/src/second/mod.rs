@@ -12,9 +12,10 @@
 //! of the solving: each turns a [`Plant`], the moves in service and the states it may use into a [`Table`]. In a plant
 //! whose runs must settle they find the stages of request (ix) one after another.
 //!
-//! Second gauges for request (xi) stand in [`gauge`].
+//! Second gauges for request (xi) stand in [`gauge`], and second desks for request (xii) in [`desk`].
 
 mod brute;
+pub mod desk;
 mod fast;
 pub mod format;
 pub mod gauge;

@@ -1,13 +1,14 @@
 //! What document 01 fixes by hand: the marked examples M1 to M11, and the table of refusals with its edges; and what
 //! requests (i), (ii), (iv), (v), (vi) and (vii) of document 02 say of the good moves, of drop lists, of previews, of
 //! the goals that are passed, of lists of withdrawals and of returns, worked out by hand. What request (viii) says of
-//! indexes is in [`index`], what request (ix) says of plants that must settle in [`settle`], and what request (xi) says
-//! of the gauge in [`gauge`]. Run on any planner or gauge.
+//! indexes is in [`index`], what request (ix) says of plants that must settle in [`settle`], what request (xi) says of
+//! the gauge in [`gauge`], and what request (xii) says of the desk in [`desk`]. Run on any planner, gauge or desk.
 
 use planbook::calls::{mask_bytes, Calls};
 use planbook::plants::{self, bytes_of, Model};
 use planbook::sys::{Advice, Answer, Cost, Mask, Part};
 
+pub mod desk;
 pub mod gauge;
 pub mod index;
 pub mod settle;
