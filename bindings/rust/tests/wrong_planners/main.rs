@@ -61,6 +61,7 @@ impl Solve for ShortWaits {
     }
 }
 
+mod desks;
 mod gauges;
 mod indexes;
 mod settling;

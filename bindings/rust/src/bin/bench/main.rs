@@ -33,17 +33,22 @@
 //! Then stands the gauge: a call with 1, 8 and 64 bands, in nanoseconds, for the library and for what one writes by
 //! hand with the machine's floats, over 64 tables with 16 readings each in turn.
 //!
+//! Then stands the desk: a start, a report and a wrong report, which is refused with 13, in the longest plant, from 16
+//! states in turn, and in strip plant P, in microseconds, for the library and for a desk that is written by hand for
+//! speed and checks plant and book in each call, too.
+//!
 //! At the end stand plants that are slow to make, without settling and with it: one make each, in seconds, by all but
 //! the plain solver, and for slow families the growth of that from 512 states to 1,024.
 //!
 //! `bench --count FAMILY STATES [PLANTS [SOLVER]]` measures nothing: it makes one make and one withdrawal, one index
 //! and one of each by it for each of so many plants of a family (twelve), by one solver (the first), for a tool that
 //! counts instructions, as `tests/counts.sh` does. `bench --families` prints the names of the families that are not slow, and
-//! `bench --only FAMILY...` measures no others; `gauge` stands for the gauge there.
+//! `bench --only FAMILY...` measures no others; `gauge` stands for the gauge there, and `desk` for the desk.
 
 mod cases;
 mod clock;
 mod count;
+mod desk;
 mod gauge;
 mod print;
 mod slow;
@@ -56,8 +61,8 @@ use print::{print_growth, print_heading, print_line, print_mean_ratio, print_rat
 
 const SIZES: [u16; 4] = [64, 256, 512, 1024];
 
-/// The name by which the gauge is asked for.
-const GAUGE: &str = "gauge";
+/// What is measured beside the planners, by the name by which it is asked for.
+const OTHERS: [(&str, fn()); 2] = [("gauge", gauge::print_gauge), ("desk", desk::print_desk)];
 
 /// How many plants of a family are measured in turn.
 const PLANTS: u64 = 12;
@@ -104,23 +109,21 @@ fn print_all(planners: &[&dyn Calls]) {
         print_mean_ratio(ratio.map(place), &all);
     }
     slow::print_lookups(planners);
-    gauge::print_gauge();
+    OTHERS.iter().for_each(|(_, print)| print());
     slow::print_slow(planners);
 }
 
-/// The families of these names, or the gauge, and nothing else.
+/// The families of these names, the gauge or the desk, and nothing else.
 fn print_only(planners: &[&dyn Calls], names: &[&str]) {
-    if names == [GAUGE] {
-        return gauge::print_gauge();
+    let is_other = |name: &&&str| OTHERS.iter().any(|(other, _)| other == *name);
+    if !names.iter().all(|name| is_other(&name)) {
+        print_heading(planners);
     }
-    print_heading(planners);
-    for name in names.iter().filter(|name| **name != GAUGE) {
+    for name in names.iter().filter(|name| !is_other(name)) {
         let family = quick_families().find(|family| family.name() == *name).expect("the name of a family");
         print_family(planners, family);
     }
-    if names.contains(&GAUGE) {
-        gauge::print_gauge();
-    }
+    OTHERS.iter().filter(|(name, _)| names.contains(name)).for_each(|(_, print)| print());
 }
 
 /// The families that all calls are measured on.
