@@ -1,7 +1,7 @@
 /*
- * How much stack the calls take: all twelve run on a stack of their own that is painted first, and what they overwrote
- * is counted, for a plant of each sort. Prints the figures; fails at 256 KiB or more. The plants are the largest there
- * are.
+ * How much stack the calls take: all fourteen run on a stack of their own that is painted first, and what they
+ * overwrote is counted, for a plant of each sort. Prints the figures; fails at 256 KiB or more. The plants are the
+ * largest there are.
  */
 #include <stdio.h>
 #include <string.h>
@@ -65,6 +65,10 @@ static void calls(void) {
     const double ends[2] = {0.0, 0.0};
     const uint32_t band_states[1] = {1023};
     refusals += planbook_gauge(kinds, 2, ends, 2, band_states, 1, STATES, 2.013, 2.0).number;
+    planbook_desk desk = planbook_start(plant, sizeof plant, out, gone.length, 1022);
+    refusals += desk.number;
+    desk = planbook_report(plant, sizeof plant, out, gone.length, desk.state, desk.goal, 1023);
+    refusals += desk.number + desk.lost;
 }
 
 /* Bytes of stack that the calls take with the plant that is built. */

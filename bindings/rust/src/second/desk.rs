@@ -156,13 +156,17 @@ impl<'a> Lent<'a> {
         let (mut is_fine, mut kept) = (true, 0);
         for row in self.rows.chunks_exact(self.row) {
             let (stage, entries) = row.split_at(self.opening);
-            let is_lost = four(entries, 0) == LOST;
-            kept += u32::from(!is_lost);
+            let (mut all, mut some, mut actions) = (LOST, 0, 0);
             for entry in entries.chunks_exact(4).map(|entry| four(entry, 0)) {
-                let (wait, action) = (entry & 0xffff, entry >> 16);
-                let is_sound = (wait <= 1023) & (action < 32) & (mask >> (action & 31) & 1 != 0);
-                is_fine &= (is_lost & (entry == LOST)) | (!is_lost & is_sound);
+                // Bits above those of a wait up to 1,023 and a move up to 31 are told from all entries at once.
+                all &= entry;
+                some |= entry;
+                actions |= 1 << (entry >> 16 & 31);
             }
+            let is_lost = all == LOST;
+            let is_sound = (some & 0xffe0_fc00 == 0) & (actions & !mask == 0);
+            is_fine &= is_lost | is_sound;
+            kept += u32::from(!is_lost);
             if self.opening != 0 {
                 let stage = two(stage, 0);
                 is_fine &= if is_lost { stage == 0xffff } else { stage.wrapping_sub(1) < self.states };
@@ -226,16 +230,25 @@ fn check_plant(plant: &[u8]) -> Result<([u32; 8], &[u8]), u32> {
     if labels.chunks_exact(2).fold(0, |all, label| all | two(label, 0)) & !bits != 0 {
         return Err(2);
     }
-    let (mut is_fine, mut next) = (true, 0);
-    for arrow in arrows.chunks_exact(6).map(|arrow| arrow_at(arrow, 0)) {
-        let [from, action, to] = arrow;
-        is_fine &= (from < states) & (action < moves) & (to < states) & (rank(arrow) >= next);
-        next = rank(arrow) + 1;
-    }
-    match is_fine {
+    match are_in_order(arrows, states, moves) {
         true => Ok((header, arrows)),
         false => Err(3),
     }
+}
+
+/// Whether arrows have states and moves below these counts and ascend: the last one is then that from the highest state.
+fn are_in_order(arrows: &[u8], states: u32, moves: u32) -> bool {
+    let (mut next, mut most_action, mut most_to, mut falls) = (0, 0, 0, false);
+    for arrow in arrows.chunks_exact(6) {
+        let [from, action, to] = arrow_at(arrow, 0);
+        let rank = rank([from, action, to]);
+        falls |= rank < next;
+        next = rank + 1;
+        most_action = most_action.max(action);
+        most_to = most_to.max(to);
+    }
+    let last_from = arrows.chunks_exact(6).next_back().map_or(0, |arrow| two(arrow, 0));
+    arrows.is_empty() || !falls && last_from < states && most_action < moves && most_to < states
 }
 
 /// The eight numbers of a header, if there are as many bytes.
