@@ -139,8 +139,8 @@ fn walks_of_the_desk() {
 fn random_rounds_of_the_desk() {
     let calls = calls_of_a_kind();
     // In all rounds together, each refusal, each sort of answer, and on walks goals met, just in time, passed and
-    // sought anew, and books of each call that writes one.
-    let (mut refused, mut counts, mut walked, mut ways) = ([0; 7], [0; 10], [0; 6], [0; 6]);
+    // sought anew, and books of each call that writes one, and of plants that must settle.
+    let (mut refused, mut counts, mut walked, mut ways) = ([0; 7], [0; 10], [0; 6], [0; 7]);
     for (name, round) in desks::rounds::RANDOM_ROUNDS {
         let mut comparison = DeskComparison::new(&Linked, &desk::Plain, &Linked);
         let rounds = rounds::run(&mut comparison, round, SEED, calls);
@@ -150,7 +150,8 @@ fn random_rounds_of_the_desk() {
         let walks = comparison.walked();
         let seen = [walks.steps, walks.met, walks.just, walks.passed, walks.all_met, walks.anew];
         walked = std::array::from_fn(|at| walked[at] + seen[at]);
-        ways = std::array::from_fn(|at| ways[at] + walks.ways[at]);
+        let by = walks.ways.iter().chain([&walks.settling]);
+        ways.iter_mut().zip(by).for_each(|(many, more)| *many += more);
     }
     println!("refused {refused:?}, answers {counts:?}, on walks {walked:?}, walks by books of each call {ways:?}");
     assert!(refused.iter().all(|&many| many > calls / 20), "{refused:?} refused");

@@ -1,10 +1,11 @@
-//! The desk: starts and reports in the longest plant and in a small one, beside a desk that is written by hand for speed.
+//! The desk: starts and reports in the longest plant and in small ones, beside a desk that is written by hand for
+//! speed.
 
 use std::hint::black_box;
 
 use crate::clock::mean_in_turn;
 use planbook::calls::{Calls, Desks, Held};
-use planbook::plants::{self, Model};
+use planbook::plants::{self, Family, Model};
 use planbook::second::desk::Fast as FastDesk;
 use planbook::second::format::{BookView, Plant};
 use planbook::second::Fast;
@@ -62,7 +63,9 @@ pub fn print_desk() {
     #[cfg(not(feature = "linked"))]
     let desks: Vec<&dyn Desks> = vec![&FastDesk];
 
-    for case in [Case::new("longest", &plants::longest()), Case::new("strip", &plants::strip())] {
+    let models = [plants::longest(), Family::Ring.build(64, 1), plants::strip()];
+    for (name, model) in ["longest", "ring of 64", "strip"].into_iter().zip(models) {
+        let case = Case::new(name, &model);
         for (name, call) in CALLS {
             eprintln!("desk, {}, {name}", case.name);
             let mut times = vec![f64::INFINITY; desks.len()];

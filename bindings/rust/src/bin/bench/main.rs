@@ -33,9 +33,9 @@
 //! Then stands the gauge: a call with 1, 8 and 64 bands, in nanoseconds, for the library and for what one writes by
 //! hand with the machine's floats, over 64 tables with 16 readings each in turn.
 //!
-//! Then stands the desk: a start, a report and a wrong report, which is refused with 13, in the longest plant, from 16
-//! states in turn, and in strip plant P, in microseconds, for the library and for a desk that is written by hand for
-//! speed and checks plant and book in each call, too.
+//! Then stands the desk: a start, a report and a wrong report, which is refused with 13, in the longest plant, in a
+//! ring of 64 states, from 16 states in turn, and in strip plant P, in microseconds, for the library and for a desk that
+//! is written by hand for speed and checks plant and book in each call, too.
 //!
 //! At the end stand plants that are slow to make, without settling and with it: one make each, in seconds, by all but
 //! the plain solver, and for slow families the growth of that from 512 states to 1,024.

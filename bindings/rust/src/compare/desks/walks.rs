@@ -12,6 +12,8 @@ use crate::sys::Desk;
 pub struct Walked {
     /// How many walks there were, on which the line answered as far from the goal as it may, and at random.
     pub walks: [u64; 2],
+    /// How many of them were in plants that must settle.
+    pub settling: u64,
     /// How many reports there were.
     pub steps: u64,
     /// How many goals that were sought were met.
@@ -39,13 +41,14 @@ impl Walked {
         if self.walks == [0; 2] {
             return String::new();
         }
-        let Walked { walks: [far, any], steps, met, longest, just, passed, all_met, anew, whole, ways } = self;
+        let Walked { walks: [far, any], settling, steps, met, longest, just, passed, all_met, anew, whole, ways } =
+            self;
         format!(
-            "; {far} walks with the farthest ends and {any} with any, {whole} of them till every goal was due, have \
-             {steps} reports: {met} goals sought were met, after {longest} moves at the most and {just} times with the \
-             last that was promised, {passed} were passed, and all of several were met in one state {all_met} times, \
-             after which the same was sought anew {anew} times; {ways:?} are by books of make, make by index, \
-             withdraw, withdraw by index, lists and returns"
+            "; {far} walks with the farthest ends and {any} with any, {whole} of them till every goal was due and \
+             {settling} in plants that must settle, have {steps} reports: {met} goals sought were met, after {longest} \
+             moves at the most and {just} times with the last that was promised, {passed} were passed, and all of \
+             several were met in one state {all_met} times, after which the same was sought anew {anew} times; \
+             {ways:?} are by books of make, make by index, withdraw, withdraw by index, lists and returns"
         )
     }
 }
@@ -92,6 +95,7 @@ impl Walk<'_> {
         }
         let walked = &mut comparison.walks;
         walked.walks[usize::from(!self.farthest)] += 1;
+        walked.settling += u64::from(plant.settles);
         walked.steps += steps as u64;
         walked.whole += u64::from(steps > watch.turn);
     }
