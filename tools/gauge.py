@@ -21,16 +21,13 @@ from typing import List, Optional, Sequence, Tuple
 from command import run_command, say_lines
 from console import MachineError
 from facts import state_lines
-from listing import TOP, Refused, meaning
+from library import LibraryError, call, numbers
+from listing import Refused, meaning
 from plant import Line, Plant, PlantError, decoded, lines_of, read_file, read_plant, shown, shown_name
 
 MAX_BANDS = 64
 NUMBER = re.compile(r"[+-]?([0-9]+\.?[0-9]*|\.[0-9]+)([eE][+-]?[0-9]+)?")
 LONGEST = 24  # letters of a number that is shown as it was written
-
-
-class LibraryError(MachineError):
-    """The library is missing, or did not answer as it should."""
 
 
 @dataclass
@@ -144,29 +141,17 @@ def number_from(word: str) -> float:
 # The library.
 
 
-class Place(ctypes.Structure):
-    """What planbook_gauge answers: 0 or why it refused, whether a band holds the deviation, and the band's state."""
-
-    _fields_ = [("number", ctypes.c_uint32), ("found", ctypes.c_uint32), ("state", ctypes.c_uint32)]
+# What planbook_gauge answers: 0 or why it refused, whether a band holds the deviation, and the band's state.
+Place = numbers("number", "found", "state")
 
 
 class Library:
     """The library's one function that is used here, for a table of bands as three lists and for one as text."""
 
     def __init__(self) -> None:
-        path = os.path.abspath(os.environ.get("PLANBOOK_LIB") or os.path.join(TOP, "target", "libplanbook.so"))
-        if not os.path.isfile(path):
-            raise LibraryError("libplanbook.so is not there: ./run builds it, or PLANBOOK_LIB names another one")
-        try:
-            self.call = ctypes.CDLL(path).planbook_gauge
-        except OSError as error:
-            raise LibraryError(f"{path}: cannot be loaded as a library ({error})") from None
-        except AttributeError:
-            raise LibraryError(f"{path}: has no planbook_gauge; it is another library, or an old one") from None
-        numbers = ctypes.c_uint32, ctypes.c_double, ctypes.c_double
         lists = [kind for item in (ctypes.c_uint8, ctypes.c_double, ctypes.c_uint32)
                  for kind in (ctypes.POINTER(item), ctypes.c_size_t)]
-        self.call.argtypes, self.call.restype = [*lists, *numbers], Place
+        self.call = call("planbook_gauge", Place, *lists, ctypes.c_uint32, ctypes.c_double, ctypes.c_double)
 
     def place(self, kinds: Sequence[int], ends: Sequence[float], band_states: Sequence[int], states: int,
               reading: float, aim: float) -> Tuple[int, int, int]:
@@ -197,8 +182,13 @@ class Library:
 
 def report(table: Table, words: Sequence[str]) -> List[str]:
     """The state, or that there is none; then the deviation and where it lies."""
+    return placed(Library(), table, words)[1]
+
+
+def placed(library: Library, table: Table, words: Sequence[str]) -> Tuple[Optional[int], List[str]]:
+    """The state that a reading means with an aim, if there is one, and the lines that are said about it."""
     reading, aim = (number_from(word) for word in words)
-    library, bands = Library(), table.bands
+    bands = table.bands
     number, found, state = library.answer(bands, table.plant.states, reading, aim)
     if number:
         hint = fault_of(table) if number == 11 else infinite(reading, aim)
@@ -213,7 +203,7 @@ def report(table: Table, words: Sequence[str]) -> List[str]:
     if library.spot(bands, float(short), 0.0) != at:
         short = repr(reading - aim)
     typed = " less ".join(word if len(word) <= LONGEST else repr(float(word)) for word in words)
-    return [first, f"deviation {short} mm ({typed}): {last}"]
+    return state if found else None, [first, f"deviation {short} mm ({typed}): {last}"]
 
 
 def where(bands: Sequence[Band], at: int) -> Tuple[str, str]:
