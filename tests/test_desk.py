@@ -529,6 +529,7 @@ class Refusals(DeskCase):
         self.refuses(2, "--state is given twice", STRIP, "7", "--state", "0", "--state", "1")
         self.refuses(2, "unknown option --colour; ./run --help says what there is", STRIP, "7", "--state", "0",
                      "--colour")
+        self.fails(2, "unknown option --colour; ./run --help says what there is", DESK_PY, "--colour")
         self.refuses(2, "'-1' is no mask", STRIP, "-1", "--state", "0")
         self.refuses(2, "'7x' is no mask", STRIP, "7", "7x", "--state", "0")
         self.refuses(2, "17 masks are too many", STRIP, *["7"] * 17, "--state", "0")

@@ -570,6 +570,23 @@ class Build(Case):
         self.program("bin/cc", "exit 0")
         self.assertIn("rt built no libplanbook.so", self.call(self.path("top/run"), *call[2:], env=self.env)[2])
 
+    def test_the_desk_has_its_words_looked_at_before_the_library_is_built(self) -> None:
+        self.builds_library()
+        desk, strip = [self.path("top/run"), "desk"], self.example("strip")
+        for words in ([strip, "7"], [strip, "--state", "0"], [strip, "7x", "--state", "0"], ["-", "7", "--state", "0"],
+                      ["none", "7", "--state", "0"], [strip, "7", "--state", "0", "--aim", "2"],
+                      [strip, "7", "--state", "0", "--bands", "none", "--aim", "2"],
+                      [strip, "7", "--state", "0", "--bands", BANDS, "--aim", "x"]):
+            self.fails(2, "", *desk, *words, env=self.env)
+            self.assertFalse(os.path.exists(self.path("calls")), words)
+        for _ in range(2):
+            code, out, error = self.call("bash", "-c", '"$0" "$@" </dev/null', *desk, strip, "7", "--state", "0",
+                                         env=self.env)
+            self.assertEqual((code, out), (0, "state 0 move 0 wait 2 seek 1\n"), error)
+            self.assertEqual(self.calls(), ["staticlib planbook_c"])
+        self.assertEqual(error, "")
+        self.assertFalse(os.path.exists(self.planner))  # the desk needs no planner
+
     def test_by_a_symbolic_link(self) -> None:
         self.builds()
         os.symlink("top/run", self.path("one"))
