@@ -19,7 +19,7 @@ import unittest
 from collections import Counter
 from typing import Dict, List, Optional, Set, Tuple, Type
 
-from test_tools import BANDS, EXAMPLES, RUN, SETTLE, SMALL, STRIP_LISTING, TOP, Case, changed
+from test_tools import BANDS, EXAMPLES, RUN, SMALL, STRIP_LISTING, TOP, Case, changed
 
 import plant  # tools/ is on the path by way of test_tools
 
@@ -727,6 +727,17 @@ desk planbook_report({lent}, uint32_t held, uint32_t goal, uint32_t said) {{ {re
             code, out, error = self.small("", self.library(make, start))
             self.assertEqual((code, out, error.count("\n")), (status, "", 1), error)
             self.assertIn(words, error)
+
+    def test_a_library_that_gives_a_move_that_cannot_be_made(self) -> None:
+        """Move 1 is in service and has no arrow in state 0; move 2 has one, and is out of service."""
+        path = self.text("a.plant", SMALL.replace("moves 1", "moves 3") + "arrow 0 2 -> 1\n")
+        for move, status in ((0, 0), (1, 3), (2, 3)):
+            env = self.library(self.MAKE.replace("{ 2, 1, 1, 2, 1,", "{ 2, 3, 1, 2, 3,"),
+                               f"return (desk){{ 0, 0, {move}, 1, 0, 0, 0 }};")
+            code, _, error = self.call("bash", "-c", '"$0" "$@" </dev/null', RUN, "desk", path, "3", "--state", "0",
+                                       env=env)
+            self.assertEqual(code, status)
+            self.assertEqual("its answer is none for this state" in error, status == 3, error)
 
     def test_a_library_that_errs_about_a_report(self) -> None:
         against = "run: libplanbook.so does not add up: it takes or refuses a report against the arrows\n"
