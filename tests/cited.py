@@ -12,10 +12,11 @@ import sys
 CALLS = {
     "make": "make_book", "withdraw": "withdraw_moves", "list": "withdraw_list", "return": "return_moves",
     "make by index": "make_indexed", "withdraw by index": "withdraw_indexed", "index": "index_plant",
-    "preview": "preview_withdrawal", "consult": "consult_book", "moves": "good_moves", "row": "state_row",
-    "gauge": "find_place", "program": "reply",
+    "preview": "preview_withdrawal", "consult": "consult_book", "with plant": "consult_plant", "step": "consult_step",
+    "moves": "good_moves", "row": "state_row", "gauge": "find_place", "start": "start_desk",
+    "report": "report_state", "program": "reply",
 }
-CRATES = ("books", "consult", "gauge", "reply")
+CRATES = ("books", "consult", "gauge", "desk", "reply")
 FUNCTION = re.compile(r"^pub fn (\w+)(.*?)^\{", re.M | re.S)
 CLAUSE = re.compile(r"ensures \w+ \{ λ _\. ⌜ ([A-Z][\w-]*) ⌝ \}")
 

@@ -1,5 +1,5 @@
 -- Whether a plant has an arrow: the one found by bisection is it, or there is none. Assumes nothing.
-use mathlib.Core.Path.{_≡_, refl, sym, ap, _∙_, subst}
+use mathlib.Core.Path.{_≡_, refl, sym, ap, _∙_}
 use mathlib.Core.Logic.{inl, inr}
 use mathlib.Core.Bool.{Bool, true, false, _&&_, _||_}
 use mathlib.Core.List.{List}
@@ -10,10 +10,10 @@ use lib.Dec.{eqb}
 use borrow.Author.Tests.{eqb-true, eqb-false, eq-eqb}
 use Rattle.statements.specs.Sets.{isIn, consIf}
 use Rattle.statements.specs.Plants.{word, plantOf, plantFault, endsIn, ends}
-use Rattle.sets.proofs.Tests.{decided, and-true, and-left, and-right, same-test}
+use Rattle.sets.proofs.Tests.{decided, and-left, and-right}
 use Rattle.format.specs.declared.arrows.Arrow.{Arrow}
 use Rattle.format.specs.Arrows.{arrowIn, arrowsLeft}
-use Rattle.format.proofs.Stored.{asArrow, left-more, left-none}
+use Rattle.format.proofs.Stored.{left-more, left-none}
 use Rattle.consult.specs.Checks.{rankIn, Reaches}
 use Rattle.consult.proofs.Ascending.{arrow-low, ascends}
 

@@ -1,3 +1,5 @@
--- Laws of what the desk answers, and of following a book by it.
+-- Laws of what the desk answers, by itself and against consult, the marked answers, and laws of following a book.
 pub mod Answers
+pub mod Against
+pub mod Examples
 pub mod Sessions

@@ -3,24 +3,23 @@
 -- in turn that is not served is sought, and so each comes. Assumes nothing else.
 use mathlib.Core.Path.{_≡_, refl, sym, _∙_, ap, subst}
 use mathlib.Core.Logic.{_⊎_, inl, inr, ⊎-elim}
-use mathlib.Core.Bool.{true, false, _&&_, not}
+use mathlib.Core.Bool.{true, false, not}
 use mathlib.Core.List.{List}
 use Prim.Native.Nat.{ℕ, zero, suc, _+_, _*_, _≤_, _<_}
 use native.Mathlib.Omega.{arith}
-use lib.Dec.{eqb}
-use Rattle.statements.specs.Sets.{pick, isIn}
-use Rattle.statements.specs.Plants.{firstOf, when, Plant, plantOf, ends}
+use Rattle.statements.specs.Sets.{isIn}
+use Rattle.statements.specs.Plants.{when, Plant, plantOf, ends}
 use Rattle.statements.specs.Books.{bookGoals, waitAt, moveAt, isLost, goalAfter, passes, arrive}
 use Rattle.statements.specs.Calls.{movesFault}
 use Rattle.statements.specs.Demands.{Arriving}
 use Rattle.statements.specs.Strategies.{InGoal}
 use Rattle.sets.proofs.Tests.{same-number}
-use Rattle.promises.specs.Says.{Advises, stepFault, Determined}
+use Rattle.promises.specs.Says.{Advises, Determined}
 use Rattle.promises.specs.Steps.{Guides, Steps}
 use Rattle.desk.specs.declared.Desk.{Desk}
 use Rattle.desk.specs.Desk.{strays, reportFault, goalHeld, StartSays, ReportSays, Answering}
 use Rattle.desk.specs.Followed.{Session, stateAt, soughtAt, MetBy, Followed, Following}
-use Rattle.desk.proofs.Answers.{answering}
+use Rattle.desk.proofs.Against.{answering}
 
 module _ (s b : List ℕ) (guide : Guides s b) (plain : plantOf s .settles ≡ false) (arriving : Arriving) where
   abbrev p : Plant

@@ -48,7 +48,7 @@ pub determined : Determined
 determined =
     record {
       consult = λ h k. same-advice (cc) (cc) (cc) (cc) (cc);
-      consult-plant = λ s h k. same-advises h k;
+      advice = same-advises;
       step = same-step;
       moves = λ h k. same-mask (cc) (cc);
       writes = λ h k. same-written (h .writes) (k .writes);

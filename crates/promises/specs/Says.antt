@@ -160,8 +160,8 @@ pub record Listed : Type 0 where
 -- afterwards
 pub record Determined : Type 0 where
   pub consult : {b : List ℕ} {x i : ℕ} {r r′ : Advice} → ConsultSays b x i r → ConsultSays b x i r′ → r ≡ r′
-  pub consult-plant : (s : List ℕ) {b : List ℕ} {x i : ℕ} {r r′ : Advice} → ConsultPlantSays s b x i r →
-      ConsultPlantSays s b x i r′ → r ≡ r′
+  -- of advice that comes with a number of its own, as from consult with the plant
+  pub advice : {n : ℕ} {b : List ℕ} {x i : ℕ} {r r′ : Advice} → Advises n b x i r → Advises n b x i r′ → r ≡ r′
   pub step : {s b : List ℕ} {x i y : ℕ} {r r′ : Stepped} → StepSays s b x i y r → StepSays s b x i y r′ → r ≡ r′
   pub moves : {s b : List ℕ} {x i : ℕ} {r r′ : Mask} → MovesSays s b x i r → MovesSays s b x i r′ → r ≡ r′
   pub writes : {s b : List ℕ} {ask : Ask} {o o′ o″ d d′ d″ : List ℕ} {r r′ : Answer} →

@@ -1,7 +1,6 @@
 -- `consult::consult_step` meets its contract: refused for what is held or for the state that followed, lost, and kept are
 -- its four answers. Assumes nothing.
 use borrow.Author.Needs.{needs}
-use mathlib.Core.Path.{_≡_}
 use native.Mathlib.Omega.{arith}
 use Prim.Native.Nat.{_<_}
 use denote.Ref.{now}

@@ -1,6 +1,6 @@
 -- `consult::goals::answer` meets its contract: lost and kept are its two answers. Assumes nothing.
 use borrow.Author.Needs.{needs}
-use mathlib.Core.Path.{_≡_, sym, _∙_}
+use mathlib.Core.Path.{sym, _∙_}
 use denote.Ref.{now}
 use Rattle.consult.proofs.Consulted.{says-lost}
 use Rattle.consult.proofs.goals.answer.Statement.{statement}

@@ -1,11 +1,9 @@
 -- `consult::moves::first_at` meets its contract. The loop's invariant: the arrows before `low` are of a lower
 -- rank, and those from `high` on are not. Assumes nothing.
 use denote.Ref.{now}
-use mathlib.Core.Path.{_≡_}
-use Prim.Native.Nat.{_-_, _/_}
+use Prim.Native.Nat.{_-_}
 use native.Mathlib.Omega.{arith}
 use borrow.Author.Needs.{needs}
-use Rattle.statements.specs.Plants.{plantFault}
 use Rattle.consult.proofs.Ascending.{rank-read, Between, between-start, between-up, between-down, between-end}
 use Rattle.consult.proofs.moves.first_at.Statement.{statement}
 use Rattle.consult.proofs.moves.first_at.Tie as tie
