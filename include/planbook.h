@@ -123,8 +123,8 @@ typedef struct {
     uint32_t move;   /* the move to make for the goal arrived at, below U */
     uint32_t wait;   /* the most moves it can take to that goal, as in planbook_advice */
     uint32_t seek;   /* the goal arrived at */
-    uint32_t state;  /* the state held: the one started in or reported. A refused report has the one handed in, a refused
-                        start 0 */
+    uint32_t state;  /* the state held: the one started in or reported. A refused report has the one handed in, a
+                        refused start 0 */
     uint32_t goal;   /* the goal held: the one arrived at, in a lost state the one sought. A refused report has the one
                         handed in, a refused start 0 */
 } planbook_desk;
@@ -250,8 +250,8 @@ planbook_place planbook_gauge(const uint8_t *kinds, size_t kinds_len, const doub
                               double aim);
 
 /*
- * The mill desk starts to follow a book: in a state, seeking goal 0. It answers what consult answers there, and what the
- * desk holds: a state and a goal. The desk keeps nothing itself: hand both in with each report, and keep what comes
+ * The mill desk starts to follow a book: in a state, seeking goal 0. It answers what consult answers there, and what
+ * the desk holds: a state and a goal. The desk keeps nothing itself: hand both in with each report, and keep what comes
  * back. Plant and book are checked as in withdraw. Refusals 1 to 5, 8.
  */
 planbook_desk planbook_start(const uint8_t *plant, size_t plant_len, const uint8_t *book, size_t book_len,
@@ -265,8 +265,8 @@ planbook_desk planbook_start(const uint8_t *plant, size_t plant_len, const uint8
  * reported), 13.
  *
  * For a plant whose last header number is 0 and a book that make, withdraw, withdraw_list, return or the ways by an
- * index wrote for it, both the same in every call: from a start in a kept state on, as long as each report is the end of
- * an arrow of the move given, none is refused and no state is lost. The goal sought is met within the wait that was
+ * index wrote for it, both the same in every call: from a start in a kept state on, as long as each report is the end
+ * of an arrow of the move given, none is refused and no state is lost. The goal sought is met within the wait that was
  * answered when it became the one sought, a goal that is passed over is met there, and every goal is met within N times
  * 1,023 moves from any moment on. Where all goals are served, which is where the wait is 0, the goal sought stays, and
  * is sought anew in the next state. In other books, and for plants that must settle, both calls answer as consult does.
