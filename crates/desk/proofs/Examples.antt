@@ -1,13 +1,15 @@
 -- The marked answers of the desk hold: each is computed. Assumes nothing.
 use mathlib.Core.Path.{_≡_, refl, subst}
-use mathlib.Core.Bool.{_&&_, not}
+use mathlib.Core.Bool.{true, _&&_, not}
 use mathlib.Core.List.{List}
-use Prim.Native.Nat.{ℕ}
+use Prim.Native.Nat.{ℕ, zero, suc, _<_}
+use native.Mathlib.Omega.{arith}
 use lib.Dec.{eqb}
 use Rattle.promises.specs.declared.Advice.{Advice}
 use Rattle.desk.specs.declared.Desk.{Desk}
 use Rattle.desk.specs.Desk.{strays, reportFault, goalHeld, StartSays, ReportSays}
-use Rattle.desk.specs.MarkedDesk.{plantTurns, bookTurns, bookOther, plantSettled, bookSettled, Marked-desk}
+use Rattle.desk.specs.MarkedDesk.{plantTurns, bookTurns, bookOther, plantSettled, bookSettled, answers}
+use Rattle.desk.specs.MarkedDesk.{Marked-desk}
 use Rattle.statements.specs.Sets.{pick, bit, numbers, every, first, isIn, filter}
 use Rattle.statements.specs.Plants.{word, words, arrowsFrom, plantOf, headOk, labelsOk, rank, arrowsOk, plantFault}
 use Rattle.statements.specs.Plants.{endsIn, ends}
@@ -56,8 +58,21 @@ reported s b x i y e =
       goal = refl;
     })
 
+-- the two reports, each handed what the desk held, and that each can follow
+told : (n : ℕ) → n < 2 → ReportSays plantP bookM1 (answers n .state) (answers n .goal) (suc n) (answers (suc n))
+unfolding bit numbers every first isIn filter word words arrowsFrom plantOf headOk labelsOk rank arrowsOk plantFault endsIn ends two bytesOf bookLong bookStates bookMoves bookGoals bookCount bookMask bookTotal staged rowPlace entryPlace rowLong waitAt moveAt stageAt stageLost isLost stageHeld isHeld bookKept maskOk bookHeadOk rowsOk bookFault goalAfter served passes arrive alike lentFault numberFault movesFault stepFault strays reportFault goalHeld plantP bookP lostRow bookM1 bookM9 plantTurns bookTurns bookOther plantSettled bookSettled answers
+told zero l = reported plantP bookM1 0 1 1 refl
+told (suc zero) l = reported plantP bookM1 1 1 2 refl
+told (suc (suc n)) l = absurd (omega arith)
+
+can-follow : (n : ℕ) → n < 2 → isIn (suc n) (ends (plantOf plantP) (answers n .state) (answers n .advice .action)) ≡ true
+unfolding bit numbers every first isIn filter word words arrowsFrom plantOf headOk labelsOk rank arrowsOk plantFault endsIn ends two bytesOf bookLong bookStates bookMoves bookGoals bookCount bookMask bookTotal staged rowPlace entryPlace rowLong waitAt moveAt stageAt stageLost isLost stageHeld isHeld bookKept maskOk bookHeadOk rowsOk bookFault goalAfter served passes arrive alike lentFault numberFault movesFault stepFault strays reportFault goalHeld plantP bookP lostRow bookM1 bookM9 plantTurns bookTurns bookOther plantSettled bookSettled answers
+can-follow zero l = refl
+can-follow (suc zero) l = refl
+can-follow (suc (suc n)) l = absurd (omega arith)
+
 pub marked-desk : Marked-desk
-unfolding bit numbers every first isIn filter word words arrowsFrom plantOf headOk labelsOk rank arrowsOk plantFault endsIn ends two bytesOf bookLong bookStates bookMoves bookGoals bookCount bookMask bookTotal staged rowPlace entryPlace rowLong waitAt moveAt stageAt stageLost isLost stageHeld isHeld bookKept maskOk bookHeadOk rowsOk bookFault goalAfter served passes arrive alike lentFault numberFault movesFault stepFault strays reportFault goalHeld plantP bookP lostRow bookM1 bookM9 plantTurns bookTurns bookOther plantSettled bookSettled
+unfolding bit numbers every first isIn filter word words arrowsFrom plantOf headOk labelsOk rank arrowsOk plantFault endsIn ends two bytesOf bookLong bookStates bookMoves bookGoals bookCount bookMask bookTotal staged rowPlace entryPlace rowLong waitAt moveAt stageAt stageLost isLost stageHeld isHeld bookKept maskOk bookHeadOk rowsOk bookFault goalAfter served passes arrive alike lentFault numberFault movesFault stepFault strays reportFault goalHeld plantP bookP lostRow bookM1 bookM9 plantTurns bookTurns bookOther plantSettled bookSettled answers
 marked-desk =
     record {
       start = started plantP bookM1 0 refl;
@@ -79,4 +94,5 @@ marked-desk =
       passed-on = reported plantTurns bookOther 0 0 1 refl;
       settled = reported plantSettled bookSettled 0 0 0 refl;
       other-sort = started plantTurns bookSettled 0 refl;
+      session = record { starts = started plantP bookM1 0 refl; goes = told; correct = can-follow };
     }

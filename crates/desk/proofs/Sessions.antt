@@ -125,8 +125,8 @@ module _ (s b : List ℕ) (guide : Guides s b) (plain : plantOf s .settles ≡ f
         let a = always n l in
         rw (a .state) (guide .served plain (x-at n) i (a .state-low) hi (a .kept) .0 z)
 
-    not-met : (n i : ℕ) → n ≤ m → i < p .goals → InGoal p i (desk n .state) → waitAt b (x-at n) i ≡ 0
-    not-met n i l hi g =
+    goal-served : (n i : ℕ) → n ≤ m → i < p .goals → InGoal p i (desk n .state) → waitAt b (x-at n) i ≡ 0
+    goal-served n i l hi g =
         let a = always n l in
         guide .served plain (x-at n) i (a .state-low) hi (a .kept) .1 (rw (a .state) at g)
 
@@ -285,7 +285,7 @@ module _ (s b : List ℕ) (guide : Guides s b) (plain : plantOf s .settles ≡ f
               (same-number (waitAt b (x-at (suc n)) (seek-at n)) 0);
           all-served = λ n l. (
             λ z i hi. all-met n i l hi z,
-            λ all. wait-is n l ∙ not-met n (seek-at n) l (seek-low n l) (all (seek-at n) (seek-low n l)),
+            λ all. wait-is n l ∙ goal-served n (seek-at n) l (seek-low n l) (all (seek-at n) (seek-low n l)),
           );
           stays = λ n l z.
               let a = always n l in

@@ -1,11 +1,12 @@
 -- Marked answers of the desk, in strip plant P of document 01 and in small plants and books.
 use mathlib.Core.Bool.{true, false}
 use mathlib.Core.List.{List, [], _∷_}
-use Prim.Native.Nat.{ℕ}
+use Prim.Native.Nat.{ℕ, zero, suc}
 use Rattle.statements.specs.Books.{bytesOf}
 use Rattle.statements.specs.Marked.{plantP, bookM1, bookM9}
 use Rattle.desk.specs.declared.Desk.{Desk}
 use Rattle.desk.specs.Desk.{StartSays, ReportSays}
+use Rattle.desk.specs.Followed.{Session}
 
 -- an answer: move, wait and goal; lost; refused with a number; each with the state and the goal held
 abbrev pub moves : ℕ → ℕ → ℕ → ℕ → ℕ → Desk
@@ -38,6 +39,12 @@ plantSettled = bytesOf (1 ∷ 1 ∷ 1 ∷ 1 ∷ 16 ∷ 18 ∷ 24 ∷ 1 ∷ 515 �
 unfoldable pub bookSettled : List ℕ
 bookSettled = bytesOf (1 ∷ 1 ∷ 1 ∷ 1 ∷ 1 ∷ 0 ∷ 16 ∷ 22 ∷ 1 ∷ 0 ∷ 0 ∷ [])
 
+-- what the desk answers in P by the book of M1, when it starts in state 0 and is told 1 and then 2
+unfoldable pub answers : ℕ → Desk
+answers zero = moves 0 2 1 0 1
+answers (suc zero) = moves 0 1 1 1 1
+answers (suc (suc n)) = moves 0 1 0 2 0
+
 pub record Marked-desk : Type 0 where
   -- P and the book of M1: in state 0 goal 0 is served, and goal 1 sought; move 0 leads to state 1 alone
   pub start : StartSays plantP bookM1 0 (moves 0 2 1 0 1)
@@ -68,3 +75,5 @@ pub record Marked-desk : Type 0 where
   -- a plant that settles is answered as consult answers; a book of the other sort is refused
   pub settled : ReportSays plantSettled bookSettled 0 0 0 (moves 0 0 0 0 0)
   pub other-sort : StartSays plantTurns bookSettled 0 (refuses 4 0 0)
+  -- a start and the two reports are a session: what is claimed of sessions is claimed of this one
+  pub session : Session plantP bookM1 0 suc answers 2
