@@ -11,7 +11,7 @@ use lib.Dec.{leb, ltb}
 use lib.ListN.{length, get_or}
 use borrow.Author.Tests.{le-leb, leb-true, lt-ltb, ltb-true, ne_eqb}
 use Rattle.statements.specs.Sets.{numbers, every, is_in, cons_if, filter}
-use Rattle.sets.proofs.Tests.{decided, same_number, and-true, and_left, and_right, and_none}
+use Rattle.sets.proofs.Tests.{decided, same_number, and_true, and_left, and_right, and_none}
 use Rattle.sets.proofs.Members.{Sifted, filter_same, filter_holds, numbers_holds, is_in_here, is_in_there, is_in_cases}
 use Rattle.sets.proofs.Members.{is_in_none}
 use Rattle.sets.proofs.Rising.{From, from_filter}
@@ -23,8 +23,8 @@ rising_from : (x limit : ℕ) (xs : List ℕ) → From x xs → ((z : ℕ) → i
 unfolding rising
 rising_from x limit [] h b = refl
 rising_from x limit (y ∷ ys) h b =
-    and-true (le-leb x y h.0)
-    (and-true (lt-ltb y limit (b y (is_in_here y ys)))
+    and_true (le-leb x y h.0)
+    (and_true (lt-ltb y limit (b y (is_in_here y ys)))
     (rising_from (suc y) limit ys h.1 (λ z m. b z (is_in_there z y ys m))))
 
 -- so does a filter of the numbers below it
@@ -53,7 +53,7 @@ module _ (x limit y : ℕ) (ys : List ℕ) (h : rising x limit (y ∷ ys) ≡ tr
   -- all are larger where the first is
   rising_past : x < y → rising (suc x) limit (y ∷ ys) ≡ true
   unfolding rising
-  rising_past l = and-true (le-leb (suc x) y l) (and_right (leb x y) _ h)
+  rising_past l = and_true (le-leb (suc x) y l) (and_right (leb x y) _ h)
 
 -- the members of a list that rises from a number on are no smaller
 rising_least : (x limit : ℕ) (xs : List ℕ) → rising x limit xs ≡ true → (z : ℕ) → is_in z xs ≡ true → x ≤ z

@@ -1,4 +1,6 @@
 // Loops over slices of 16-bit numbers. Each is total: where something does not fit it writes nothing.
+#![tactic(auto)]
+
 ghost use Rattle.std.specs.Prelude.{◌≡◌};
 ghost use Rattle.statements.specs.Sets.{over};
 ghost use Rattle.arrays.specs.Lists.{fitting, zeroed, rising};

@@ -1,5 +1,7 @@
 // The public calls that write a book: make one, withdraw moves from it, once or by a list, or see what that would cost,
 // return moves to it; and the one that writes the index of a plant.
+#![tactic(auto)]
+
 mod make;
 mod start;
 mod withdraw;

@@ -1,4 +1,6 @@
 // The public calls that read a book: consult it for a move, for a step or for all good moves, hand back a state's row.
+#![tactic(auto)]
+
 mod goals;
 mod moves;
 

@@ -71,8 +71,8 @@ pub within_in_turn :
     ((x : ℕ) → within x ≡ true → allowed p x ≡ true) → (masks : List ℕ) →
     withdrawn_in_turn p (book_within p m within) masks ≡ book_within p (less_mask m (union_of masks)) within
 unfolding withdrawn_in_turn union_of
-within_in_turn {p} {m} {within} given inside [] = ap (λ n. book_within p n within) (sym (less_none m))
-within_in_turn {p} {m} {within} given inside (gone ∷ more) =
+within_in_turn {p = p} {m = m} {within = within} given inside [] = ap (λ n. book_within p n within) (sym (less_none m))
+within_in_turn {p = p} {m = m} {within = within} given inside (gone ∷ more) =
     let left : Given p (less_mask m gone) within =
     record {
       plant = given.plant;
@@ -80,7 +80,7 @@ within_in_turn {p} {m} {within} given inside (gone ∷ more) =
       below = given.below;
     } in
     ap (λ b. withdrawn_in_turn p b more) (withdrawn_within given inside gone)
-    ∙ within_in_turn left inside more
+    ∙ within_in_turn {m = less_mask m gone} left inside more
     ∙ ap (λ n. book_within p n within) (less_both m gone (union_of more))
 
 module _ (p : Plant) (ok : PlantOk p) (m : ℕ) (mask_ok_lem : mask_ok p.moves m ≡ true) where

@@ -1,1 +1,2 @@
 // No functions: demands 2 and 3 proved in proofs/.
+#![tactic(auto)]

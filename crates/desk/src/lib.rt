@@ -1,5 +1,7 @@
 // The mill desk: follows a book from state to state. It knows the planner by what consult's calls promise, and by
 // nothing else. What it holds, a state and a goal, its caller keeps for it.
+#![tactic(auto)]
+
 ghost use Rattle.std.specs.Prelude.{◌≡◌, false};
 ghost use Rattle.statements.specs.Sets.{pick};
 ghost use Rattle.desk.specs.Desk.{StartSays, ReportSays, Answering};

@@ -1,6 +1,8 @@
 // The check of plants over byte slices, document 01's answers 1 to 3, and the readers of their bytes, of numbers and of
 // masks.
 // Nothing here trusts a lent byte: each function has an answer for any slice and any number.
+#![tactic(auto)]
+
 pub mod arrows;
 pub mod plant;
 pub mod word;

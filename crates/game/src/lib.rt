@@ -1,5 +1,7 @@
 // Generalized Büchi games on a directed hypergraph in arrays: backward reachability by a worklist with counters, in
 // rounds that strike nodes out. It knows nothing of plants.
+#![tactic(auto)]
+
 pub mod play;
 mod reach;
 mod strike;

@@ -1,4 +1,6 @@
 // From the gauge to a state: a table of bands, each with a lower end, an upper end and a state.
+#![tactic(auto)]
+
 ghost use Rattle.std.specs.Prelude.{◌≡◌, false, ◌&&◌, ◌*◌, ◌<◌, length};
 ghost use Rattle.std.specs.Float.Ieee.{lt};
 ghost use Rattle.statements.specs.Sets.{every};

@@ -1,5 +1,7 @@
 // The graph of a plant in two packed arrays, for the walk: the groups of the layout, and the links from each end back
 // to its group, sorted.
+#![tactic(auto)]
+
 ghost use Rattle.std.specs.Prelude.{◌≡◌, true, false, ◌&&◌, ◌+◌, ◌≤◌, length, drop};
 ghost use Rattle.statements.specs.Sets.{pick, over};
 ghost use Rattle.statements.specs.Plants.{word, plant_of, plant_fault};

@@ -1,4 +1,6 @@
 // The index of a plant's arrows by where they end: its exact check, what is gathered by it, and writing it.
+#![tactic(auto)]
+
 ghost use Rattle.std.specs.Prelude.{◌≡◌, ◌&&◌, [], ◌∷◌, ◌+◌, ◌*◌, ◌≤◌, eqb, leb, length, take};
 ghost use Rattle.statements.specs.Sets.{pick, over};
 ghost use Rattle.statements.specs.Plants.{word, plant_of, head_ok, plant_fault};

@@ -1,1 +1,2 @@
 // No functions: laws of kept states and waits in proofs/.
+#![tactic(auto)]

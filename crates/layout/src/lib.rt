@@ -1,5 +1,7 @@
 // The layout of the moves in service in a flat table: groups, one for each available move of a state, with their ends.
 // It is loaded from a plant by one pass over the arrows, which checks them too.
+#![tactic(auto)]
+
 mod pass;
 mod sums;
 

@@ -1,4 +1,6 @@
 // The texts that `planbook` prints: a book's listing, a refusal, `bad masks`. Each is written whole or not at all.
+#![tactic(auto)]
+
 mod text;
 
 ghost use Rattle.std.specs.Prelude.{◌≡◌};

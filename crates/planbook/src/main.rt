@@ -1,5 +1,7 @@
 // The program `planbook`: reads a plant and its masks from standard input, and prints the last book or a refusal. Where
 // a read or a write fails it says so in a line on standard error; after a failed read it prints nothing else.
+#![tactic(auto)]
+
 mod input;
 
 ghost use Rattle.std.specs.Prelude.{◌≡◌, ◌≤◌, length};

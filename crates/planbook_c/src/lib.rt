@@ -1,5 +1,7 @@
 // The calls for C and Rust: a lent slice is a pointer and a length, an answer is a struct of 32-bit numbers.
 // include/planbook.h says the same in C.
+#![tactic(auto)]
+
 ghost use Rattle.std.specs.Prelude.{◌≡◌};
 ghost use Rattle.statements.specs.Sets.{pick};
 ghost use Rattle.promises.specs.Says.{MakeSays, WithdrawSays, WithdrawListSays, ReturnSays, IndexSays, PreviewSays};

@@ -1,4 +1,5 @@
 // No functions: what the public calls answer. What they promise of it is in specs/, what that comes to in proofs/.
+#![tactic(auto)]
 
 // What make, withdraw, a list of withdrawals, return and index answer: the number of a refusal or 0, the length of the
 // book or index written and the number of states listed, which a return has gained and the others have dropped. A

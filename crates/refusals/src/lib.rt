@@ -1,4 +1,6 @@
 // The numbers that the calls return: that of the first check that fails, or 0 when the call is accepted.
+#![tactic(auto)]
+
 ghost use Rattle.std.specs.Prelude.{◌≡◌};
 ghost use Rattle.statements.specs.Plants.{first_of, plant_of, plant_fault};
 ghost use Rattle.statements.specs.Index.{index_fault};

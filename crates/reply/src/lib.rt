@@ -1,4 +1,6 @@
 // What `planbook` answers: from the bytes of a plant and its masks to the text that is printed.
+#![tactic(auto)]
+
 ghost use Rattle.std.specs.Prelude.{◌≡◌, true, length};
 ghost use Rattle.statements.specs.Plants.{head_ok};
 ghost use Rattle.listing.specs.Buffers.{placed, placed_long};

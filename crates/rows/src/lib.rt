@@ -1,5 +1,7 @@
 // Books as bytes: the check of one, document 01's answers 4 and 5, and the readers of its header and rows. Nothing here
 // trusts a lent byte: each function has an answer for any slice and any number.
+#![tactic(auto)]
+
 ghost use Rattle.std.specs.Prelude.{◌≡◌, true, ◌+◌, ◌^◌, ◌<◌, length, drop};
 ghost use Rattle.rows.specs.Checks.{lost_at, entry_in, entries_lost, lost_in, entries_held, held_in};
 ghost use Rattle.statements.specs.Plants.{word};

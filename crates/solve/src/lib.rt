@@ -1,4 +1,6 @@
 // The solver: kept states, stages, waits and moves of a plant with moves in service, written as the rows of a book.
+#![tactic(auto)]
+
 mod rows;
 mod search;
 mod stages;

@@ -1,1 +1,2 @@
 // No functions: laws of strategies in proofs/.
+#![tactic(auto)]

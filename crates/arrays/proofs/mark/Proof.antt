@@ -10,67 +10,67 @@ use Rattle.arrays.proofs.Marks.{mark_none, mark_yes, mark_no}
 use Rattle.arrays.proofs.mark.Statement.{statement}
 use Rattle.arrays.proofs.mark.Tie as tie
 
-abbrev invariant-loop : tie.invariant-loop
-invariant-loop listed to₀ k₀ to k = (k ≤ length listed) × (length to ≡ length to₀) × (to ≡ zeroed (take k listed) to₀)
+abbrev invariant-loop-k : tie.invariant-loop-k
+invariant-loop-k listed to₀ k₀ to k = (k ≤ length listed) × (length to ≡ length to₀) × (to ≡ zeroed (take k listed) to₀)
 
-abbrev decreases-loop : tie.decreases-loop
-decreases-loop listed to₀ k₀ to k = length listed - k
+abbrev decreases-loop-k : tie.decreases-loop-k
+decreases-loop-k listed to₀ k₀ to k = length listed - k
 
-loop-holds : tie.Need-loop-init invariant-loop decreases-loop
+loop-holds : tie.Need-loop-k-init invariant-loop-k decreases-loop-k
 loop-holds c = (omega arith, refl, mark_none _)
 
-mul-x : tie.Need-overflow-mul-x invariant-loop decreases-loop
+mul-x : tie.Need-offset_bounds-listed-k invariant-loop-k decreases-loop-k
 mul-x c = omega arith
 
-shared-slice-read-x : tie.Need-shared-slice-read-x invariant-loop decreases-loop
+shared-slice-read-x : tie.Need-bounds-listed-k invariant-loop-k decreases-loop-k
 shared-slice-read-x c = omega arith
 
-cast-x : tie.Need-overflow-cast-x invariant-loop decreases-loop
-cast-x c = omega (arith, c.shared-slice-known.given c.before.before.loop.k)
+cast-x : tie.Need-overflow_cast-x invariant-loop-k decreases-loop-k
+cast-x c = omega (arith, c.shared_slice_known-1.given c.before.before.loop-k.k)
 
-mul-to : tie.Need-overflow-mul-to invariant-loop decreases-loop
+mul-to : tie.Need-offset_bounds-to-x invariant-loop-k decreases-loop-k
 mul-to c = omega arith
 
-slice-write-to : tie.Need-slice-write-to invariant-loop decreases-loop
+slice-write-to : tie.Need-bounds-to-x invariant-loop-k decreases-loop-k
 slice-write-to c = omega arith
 
-add-k : tie.Need-overflow-add-k invariant-loop decreases-loop
+add-k : tie.Need-overflow_add-k invariant-loop-k decreases-loop-k
 add-k c = omega arith
 
-loop-less : tie.Need-loop-smaller invariant-loop decreases-loop
+loop-less : tie.Need-loop-k-smaller invariant-loop-k decreases-loop-k
 loop-less c = omega arith
 
-loop-again : tie.Need-loop-preserved invariant-loop decreases-loop
+loop-again : tie.Need-loop-k-preserved invariant-loop-k decreases-loop-k
 loop-again c =
     let t = c.before.before in
-    let l = t.before.loop in
+    let l = t.before.loop-k in
     ⊎_elim
     (λ w. (
       omega arith,
       rw w.1 (simp length-set l.invariant.1),
-      rw w.1 (mark_yes _ _ _ l.k t.loop-test.true l.invariant.2),
+      rw w.1 (mark_yes _ _ _ l.k t.loop-k-test.true l.invariant.2),
     ))
     (λ w. (
       omega arith,
       rw w.1 l.invariant.1,
-      rw w.1 (mark_no _ _ _ l.k t.loop-test.true l.invariant.2 w.0.left),
+      rw w.1 (mark_no _ _ _ l.k t.loop-k-test.true l.invariant.2 w.0.left),
     ))
-    c.if1.branch
+    c.if-x-to.branch-raw
 
-same_length : tie.Need-same-length invariant-loop decreases-loop
+same_length : tie.Need-shape_of-to invariant-loop-k decreases-loop-k
 same_length c = omega arith
 
-returns : tie.Need-returns invariant-loop decreases-loop
+returns : tie.Need-returns invariant-loop-k decreases-loop-k
 returns c =
-    let l = c.before.loop in
-    l.invariant.2 ∙ rw (take_all _ _ c.loop-test.false)
+    let l = c.before.loop-k in
+    l.invariant.2 ∙ rw (take_all _ _ c.loop-k-test.false)
 
 pub mark_spec : {M : Type 1} → statement M
 mark_spec =
     tie.close
     (tie.spec
-    invariant-loop
-    decreases-loop
+    invariant-loop-k
+    decreases-loop-k
     loop-holds
     mul-x
     shared-slice-read-x

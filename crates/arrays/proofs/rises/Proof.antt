@@ -11,61 +11,61 @@ use Rattle.arrays.proofs.Ordered.{climbs, climbs_rising, rising_empty}
 use Rattle.arrays.proofs.rises.Statement.{statement}
 use Rattle.arrays.proofs.rises.Tie as tie
 
-abbrev invariant-loop : tie.invariant-loop
-invariant-loop list limit n k₀ good₀ k good = Gathered n (climbs list) k good
+abbrev invariant-loop-k : tie.invariant-loop-k
+invariant-loop-k list limit n k₀ good₀ k good = Gathered n (climbs list) k good
 
-abbrev decreases-loop : tie.decreases-loop
-decreases-loop list limit n k₀ good₀ k good = n - k
+abbrev decreases-loop-k : tie.decreases-loop-k
+decreases-loop-k list limit n k₀ good₀ k good = n - k
 
-returns : tie.Need-returns invariant-loop decreases-loop
-returns c = rising_empty _ _ c.if1.true
+returns : tie.Need-returns-then-list-eq0 invariant-loop-k decreases-loop-k
+returns c = rising_empty _ _ c.if-list-eq0.true
 
-sub-n : tie.Need-overflow-sub-n invariant-loop decreases-loop
+sub-n : tie.Need-overflow_sub-n invariant-loop-k decreases-loop-k
 sub-n c = omega arith
 
-loop-holds : tie.Need-loop-init invariant-loop decreases-loop
+loop-holds : tie.Need-loop-k-init invariant-loop-k decreases-loop-k
 loop-holds c = gathered_none _ _
 
-mul-good : tie.Need-overflow-mul-good invariant-loop decreases-loop
+mul-good : tie.Need-offset_bounds-list-k invariant-loop-k decreases-loop-k
 mul-good c = omega arith
 
-shared-slice-read-good : tie.Need-shared-slice-read-good invariant-loop decreases-loop
+shared-slice-read-good : tie.Need-bounds-list-k invariant-loop-k decreases-loop-k
 shared-slice-read-good c = omega arith
 
-add-good : tie.Need-overflow-add-good invariant-loop decreases-loop
+add-good : tie.Need-overflow_add-good invariant-loop-k decreases-loop-k
 add-good c = omega arith
 
-mul-good-2 : tie.Need-overflow-mul-good-2 invariant-loop decreases-loop
+mul-good-2 : tie.Need-offset_bounds-list-k-in-loop-k invariant-loop-k decreases-loop-k
 mul-good-2 c = omega arith
 
-shared-slice-read-good-2 : tie.Need-shared-slice-read-good-2 invariant-loop decreases-loop
+shared-slice-read-good-2 : tie.Need-bounds-list-k-in-loop-k invariant-loop-k decreases-loop-k
 shared-slice-read-good-2 c = omega arith
 
-add-k : tie.Need-overflow-add-k invariant-loop decreases-loop
+add-k : tie.Need-overflow_add-k invariant-loop-k decreases-loop-k
 add-k c = omega arith
 
-loop-less : tie.Need-loop-smaller invariant-loop decreases-loop
+loop-less : tie.Need-loop-k-smaller invariant-loop-k decreases-loop-k
 loop-less c = omega arith
 
-loop-again : tie.Need-loop-preserved invariant-loop decreases-loop
+loop-again : tie.Need-loop-k-preserved invariant-loop-k decreases-loop-k
 loop-again c =
-    let l = c.before.before.before.loop in
+    let l = c.before.before.before.loop-k in
     gathered_more _ (climbs c.before.before.before.before.before.args.list.now) l.k l.invariant (omega arith)
 
-mul-result : tie.Need-overflow-mul-result invariant-loop decreases-loop
+mul-result : tie.Need-offset_bounds-list-n invariant-loop-k decreases-loop-k
 mul-result c = omega arith
 
-shared-slice-read-result : tie.Need-shared-slice-read-result invariant-loop decreases-loop
+shared-slice-read-result : tie.Need-bounds-list-n invariant-loop-k decreases-loop-k
 shared-slice-read-result c = omega arith
 
-cast-result : tie.Need-overflow-cast-result invariant-loop decreases-loop
+cast-result : tie.Need-overflow_cast-result invariant-loop-k decreases-loop-k
 cast-result c =
-    omega (arith, c.shared-slice-known3.given (length c.before.before.before.before.args.list.now - 1))
+    omega (arith, c.shared_slice_known-2-1.given (length c.before.before.before.before.args.list.now - 1))
 
-returns-2 : tie.Need-returns-2 invariant-loop decreases-loop
+returns-2 : tie.Need-returns invariant-loop-k decreases-loop-k
 returns-2 c =
     let s = c.before.before.before.before.args in
-    let l = c.before.before.loop in
+    let l = c.before.before.loop-k in
     let last = ltb (get_or s.list.now (length s.list.now - 1) 0) s.limit in
     ap (λ (b : Bool). b && last) (gathered_all _ (climbs s.list.now) l.k l.invariant (omega arith))
     ∙ climbs_rising s.limit s.list.now (omega arith)
@@ -74,8 +74,8 @@ pub rises_spec : {M : Type 1} → statement M
 rises_spec =
     tie.close
     (tie.spec
-    invariant-loop
-    decreases-loop
+    invariant-loop-k
+    decreases-loop-k
     returns
     sub-n
     loop-holds
