@@ -11,7 +11,7 @@ use consult::{consult_plant, consult_step};
 use promises::Advice;
 
 // What start and report answer: the advice for the state that the desk is in now, and what it holds from then on.
-#[derive(Drop)]
+#[derive(Clone, Copy)]
 pub struct Desk {
     pub advice: Advice,
     pub state: u32,

@@ -10,7 +10,7 @@ ghost use Rattle.format.specs.Arrows.{arrow_in};
 use crate::word::{number, word_at, word_in};
 
 // An arrow: a state, a move made in it, and a state to which it may lead.
-#[derive(Drop)]
+#[derive(Clone, Copy)]
 pub struct Arrow {
     pub from: u16,
     pub action: u16,
@@ -18,7 +18,7 @@ pub struct Arrow {
 }
 
 // A place among a plant's arrows.
-#[derive(Drop)]
+#[derive(Clone, Copy)]
 pub struct Arrows<'a> {
     pub plant: &'a [u8],
     pub at: u16,

@@ -93,7 +93,7 @@ fn misses(left: u16, old: u16, out: u16) -> u16
 }
 
 // The part of the queue that is not taken yet.
-#[derive(Drop)]
+#[derive(Clone, Copy)]
 struct Line {
     head: usize,
     tail: usize,

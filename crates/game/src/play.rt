@@ -21,7 +21,7 @@ use arrays::{copy, rises};
 
 // How many nodes, groups, positions and goals a game has, and whether nodes are struck out after each goal and, by a
 // worklist, those that then cannot go on. The answers are the same: it saves work where one node after another falls.
-#[derive(Drop)]
+#[derive(Clone, Copy)]
 pub struct Shape {
     pub nodes: usize,
     pub groups: usize,

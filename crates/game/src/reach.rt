@@ -13,7 +13,7 @@ use format::word::bit_at;
 
 // How many nodes, groups and positions a game has, the first of the goals to be looked at and the end of these, how
 // many nodes the set has, and whether nodes are struck out after each goal.
-#[derive(Drop)]
+#[derive(Clone, Copy)]
 pub struct Figures {
     pub nodes: usize,
     pub groups: usize,

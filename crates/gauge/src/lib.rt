@@ -11,14 +11,14 @@ ghost use Rattle.gauge.specs.Bands.{kinds_ok, reading_ok, band_at, PlaceSays};
 ghost use Rattle.gauge.specs.Placed.{Placed, Compared, Rounded};
 
 // A band's end: open without limit, or at a number of millimetres.
-#[derive(Drop)]
+#[derive(Clone, Copy)]
 pub enum End {
     Open,
     At(f64),
 }
 
 // A band: the lower end is included, the upper one is not.
-#[derive(Drop)]
+#[derive(Clone, Copy)]
 pub struct Band {
     pub lower: End,
     pub upper: End,
@@ -26,14 +26,14 @@ pub struct Band {
 }
 
 // What the gauge shows, and what it should.
-#[derive(Drop)]
+#[derive(Clone, Copy)]
 pub struct Gauge {
     pub reading: f64,
     pub aim: f64,
 }
 
 // 0 or a refusal, whether a band holds the deviation, and its state.
-#[derive(Drop)]
+#[derive(Clone, Copy)]
 pub struct Place {
     pub number: u8,
     pub found: bool,

@@ -18,7 +18,7 @@ use layout::{Loaded, load, table_room};
 use sort::{begin, sort};
 
 // Whether the links are packed by an index, and the moves in service.
-#[derive(Drop)]
+#[derive(Clone, Copy)]
 pub struct Way {
     pub indexed: bool,
     pub mask: u32,

@@ -18,7 +18,7 @@ use pass::lay;
 use sums::{bound, clear};
 
 // Whether a layout was loaded, and how many groups it has and how many ends these have; 0 where it was not.
-#[derive(Drop)]
+#[derive(Clone, Copy)]
 pub struct Loaded {
     pub fits: bool,
     pub groups: u16,

@@ -5,7 +5,7 @@ ghost use Rattle.io.specs.Counts.{IsPrefixLen};
 use libc::STDIN_FILENO;
 
 // What came of reading: how many bytes stand at the buffer's start, and whether a read failed before the input ended.
-#[derive(Drop)]
+#[derive(Clone, Copy)]
 pub(crate) struct Input {
     pub(crate) count: usize,
     pub(crate) failed: bool,

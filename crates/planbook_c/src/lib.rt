@@ -12,7 +12,7 @@ ghost use Rattle.planbook_c.specs.Flat.{Flattens, StartIs, ReportIs};
 // What make, withdraw, a list of withdrawals, return and index answer: a refusal's number or 0, the length of the book
 // or index, the number of states listed, which a return has gained and the others have dropped.
 #[repr(C)]
-#[derive(Drop)]
+#[derive(Clone, Copy)]
 pub struct Answer {
     pub number: u32,
     pub length: u32,
@@ -22,7 +22,7 @@ pub struct Answer {
 // What preview answers: a refusal's number or 0, the number of states that the withdrawal would drop and that of the
 // states it would keep.
 #[repr(C)]
-#[derive(Drop)]
+#[derive(Clone, Copy)]
 pub struct Cost {
     pub number: u32,
     pub drops: u32,
@@ -32,7 +32,7 @@ pub struct Cost {
 // What consult answers: a refusal's number or 0, 1 for a lost state, or the move and the wait of the goal arrived at,
 // and that goal, to be sought from here on.
 #[repr(C)]
-#[derive(Drop)]
+#[derive(Clone, Copy)]
 pub struct Advice {
     pub number: u32,
     pub lost: u32,
@@ -43,7 +43,7 @@ pub struct Advice {
 
 // What the call for all good moves answers: a refusal's number or 0, and the moves, bit u for move u.
 #[repr(C)]
-#[derive(Drop)]
+#[derive(Clone, Copy)]
 pub struct Mask {
     pub number: u32,
     pub mask: u32,
@@ -51,7 +51,7 @@ pub struct Mask {
 
 // What row answers: a refusal's number or 0, and where in the book lent the row starts and how long it is.
 #[repr(C)]
-#[derive(Drop)]
+#[derive(Clone, Copy)]
 pub struct Part {
     pub number: u32,
     pub start: u32,
@@ -60,7 +60,7 @@ pub struct Part {
 
 // What the gauge call answers: a refusal's number or 0, 1 if a band holds the deviation, and that band's state.
 #[repr(C)]
-#[derive(Drop)]
+#[derive(Clone, Copy)]
 pub struct Place {
     pub number: u32,
     pub found: u32,
@@ -70,7 +70,7 @@ pub struct Place {
 // What start and report answer: a refusal's number or 0, 1 for a lost state, or the move and the wait of the goal arrived
 // at, and that goal; and the state and the goal that the desk holds from then on.
 #[repr(C)]
-#[derive(Drop)]
+#[derive(Clone, Copy)]
 pub struct Desk {
     pub number: u32,
     pub lost: u32,

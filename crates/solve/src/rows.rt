@@ -11,7 +11,7 @@ use crate::search::search;
 // The figures of a plant that the solver's functions take: moves in service, number of moves, states, goals, how many
 // numbers a row has, how many groups the moves in service have and how many ends these, and whether states are struck out
 // by a worklist.
-#[derive(Drop)]
+#[derive(Clone, Copy)]
 pub(crate) struct Frame {
     pub(crate) mask: u32,
     pub(crate) none: u16,

@@ -47,13 +47,13 @@ loop-again c =
     ⊎_elim
     (λ w. (
       omega arith,
-      rw w.1 (simp length-set l.invariant.1),
-      rw w.1 (mark_yes _ _ _ l.k t.loop-k-test.true l.invariant.2),
+      rw w.to-is (simp length-set l.invariant.1),
+      rw w.to-is (mark_yes _ _ _ l.k t.loop-k-test.true l.invariant.2),
     ))
     (λ w. (
       omega arith,
-      rw w.1 l.invariant.1,
-      rw w.1 (mark_no _ _ _ l.k t.loop-k-test.true l.invariant.2 w.0.left),
+      rw w.to-is l.invariant.1,
+      rw w.to-is (mark_no _ _ _ l.k t.loop-k-test.true l.invariant.2 w.if-x-to.false),
     ))
     c.if-x-to.branch-raw
 

@@ -8,42 +8,42 @@ use Rattle.format.proofs.Faults.{fault_1, fault_2, fault_3, no_plant_fault}
 use Rattle.format.proofs.plant_fault.Statement.{statement}
 use Rattle.format.proofs.plant_fault.Tie as tie
 
-head-ok-requires : tie.Need-head-ok-requires
+head-ok-requires : tie.Need-head_ok-requires
 head-ok-requires c κs = tt
 
 -- past each test, the check that passed
-head : (c : tie.Else1) → head_ok c.before.before.before.args.plant.now ≡ true
-head c = sym c.before.head_ok.ensures ∙ not-false _ c.if1.false
+head : (c : tie.Else-not-head_ok) → head_ok c.before.before.before.args.plant.now ≡ true
+head c = sym c.before.head_ok.ensures ∙ not-false _ c.if-not-head_ok.false-raw
 
-labels : (c : tie.Else2) → labels_fine (plant_of c.before.before.before.before.before.args.plant.now) ≡ true
-labels c = sym c.before.labels_ok_lem.ensures ∙ not-false _ c.if2.false
+labels : (c : tie.Else-not-labels_ok) → labels_fine (plant_of c.before.before.before.before.before.args.plant.now) ≡ true
+labels c = sym c.before.labels_ok.ensures ∙ not-false _ c.if-not-labels_ok.false-raw
 
-returns : tie.Need-returns
-returns c = sym (fault_1 _ (sym c.before.head_ok.ensures ∙ not-true _ c.if1.true))
+returns : tie.Need-returns-then-not-head_ok
+returns c = sym (fault_1 _ (sym c.before.head_ok.ensures ∙ not-true _ c.if-not-head_ok.true-raw))
 
-labels-ok-requires : tie.Need-labels-ok-requires
+labels-ok-requires : tie.Need-labels_ok-requires
 labels-ok-requires c κs = head c
 
-returns-2 : tie.Need-returns-2
+returns-2 : tie.Need-returns-then-not-labels_ok
 returns-2 c =
-    sym (fault_2 _ (head c.before.before) (sym c.before.labels_ok_lem.ensures ∙ not-true _ c.if2.true))
+    sym (fault_2 _ (head c.before.before) (sym c.before.labels_ok.ensures ∙ not-true _ c.if-not-labels_ok.true-raw))
 
-arrows-ok-requires : tie.Need-arrows-ok-requires
+arrows-ok-requires : tie.Need-arrows_ok-requires
 arrows-ok-requires c κs = head c.before.before
 
-returns-3 : tie.Need-returns-3
+returns-3 : tie.Need-returns-then-not-arrows_ok
 returns-3 c =
     let past = c.before.before in
     sym
     (fault_3 _ (head past.before.before) (labels past)
-    (sym c.before.arrows_ok_lem.ensures ∙ not-true _ c.if3.true))
+    (sym c.before.arrows_ok.ensures ∙ not-true _ c.if-not-arrows_ok.true-raw))
 
-returns-4 : tie.Need-returns-4
+returns-4 : tie.Need-returns
 returns-4 c =
     let past = c.before.before in
     sym
     (no_plant_fault _ (head past.before.before) (labels past)
-    (sym c.before.arrows_ok_lem.ensures ∙ not-false _ c.if3.false))
+    (sym c.before.arrows_ok.ensures ∙ not-false _ c.if-not-arrows_ok.false-raw))
 
 pub plant_fault_spec : {M : Type 1} → statement M
 plant_fault_spec =

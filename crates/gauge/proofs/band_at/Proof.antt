@@ -8,56 +8,56 @@ use Rattle.gauge.proofs.Loops.{Passed, passed_none, passed_next, first_found, fi
 use Rattle.gauge.proofs.band_at.Statement.{statement}
 use Rattle.gauge.proofs.band_at.Tie as tie
 
-abbrev invariant-loop : tie.invariant-loop
-invariant-loop kinds ends states d n i₀ i =
+abbrev invariant-loop-i : tie.invariant-loop-i
+invariant-loop-i kinds ends states d n i₀ i =
     Passed (λ k. holds d (band_of kinds ends states k)) false i
 
-abbrev decreases-loop : tie.decreases-loop
-decreases-loop kinds ends states d n i₀ i = n - i
+abbrev decreases-loop-i : tie.decreases-loop-i
+decreases-loop-i kinds ends states d n i₀ i = n - i
 
-loop-holds : tie.Need-loop-init invariant-loop decreases-loop
+loop-holds : tie.Need-loop-i-init invariant-loop-i decreases-loop-i
 loop-holds c = passed_none _ _
 
-band-of-requires : tie.Need-band-of-requires invariant-loop decreases-loop
+band-of-requires : tie.Need-band_of-requires invariant-loop-i decreases-loop-i
 band-of-requires c κs =
     let pre = c.before.before.before.before.before.requires in
-    (c.loop-test.true, pre.0, pre.1, pre.2)
+    (c.loop-i-test.true, pre.0, pre.1, pre.2)
 
-holds-requires : tie.Need-holds-requires invariant-loop decreases-loop
+holds-requires : tie.Need-holds-requires invariant-loop-i decreases-loop-i
 holds-requires c κs = search rules
 
-returns : tie.Need-returns invariant-loop decreases-loop
+returns : tie.Need-returns-then-holds invariant-loop-i decreases-loop-i
 unfolding band_at
 returns c =
-    let l = c.before.before.before.before.loop in
-    let t = c.before.before.before.loop-test.true in
+    let l = c.before.before.before.before.loop-i in
+    let t = c.before.before.before.loop-i-test.true in
     first_found _ l.i _ l.invariant t
-    (ap (holds _) (sym c.before.before.band-of.ensures) ∙ sym c.before.holds.ensures ∙ c.if1.true)
+    (ap (holds _) (sym c.before.before.band_of.ensures) ∙ sym c.before.holds.ensures ∙ c.if-holds.true)
 
-add-i : tie.Need-overflow-add-i invariant-loop decreases-loop
+add-i : tie.Need-overflow_add-i invariant-loop-i decreases-loop-i
 add-i c = search rules
 
-loop-less : tie.Need-loop-smaller invariant-loop decreases-loop
+loop-less : tie.Need-loop-i-smaller invariant-loop-i decreases-loop-i
 loop-less c = search rules
 
-loop-again : tie.Need-loop-preserved invariant-loop decreases-loop
+loop-again : tie.Need-loop-i-preserved invariant-loop-i decreases-loop-i
 loop-again c =
-    let l = c.before.before.before.before.loop in
+    let l = c.before.before.before.before.loop-i in
     passed_next _ l.i _ l.invariant
-    (ap (holds _) (sym c.before.before.band-of.ensures) ∙ sym c.before.holds.ensures ∙ c.if1.false)
+    (ap (holds _) (sym c.before.before.band_of.ensures) ∙ sym c.before.holds.ensures ∙ c.if-holds.false)
 
-returns-2 : tie.Need-returns-2 invariant-loop decreases-loop
+returns-2 : tie.Need-returns invariant-loop-i decreases-loop-i
 unfolding band_at
 returns-2 c =
-    let l = c.before.loop in
-    first_past _ l.i _ l.invariant c.loop-test.false
+    let l = c.before.loop-i in
+    first_past _ l.i _ l.invariant c.loop-i-test.false
 
 pub band_at_spec : {M : Type 1} → statement M
 band_at_spec =
     tie.close
     (tie.spec
-    invariant-loop
-    decreases-loop
+    invariant-loop-i
+    decreases-loop-i
     loop-holds
     band-of-requires
     holds-requires

@@ -16,83 +16,83 @@ use Rattle.gauge.proofs.find_place.Tie as tie
 cited : Placed × (Compared × Rounded)
 cited = (placed, (compared, rounded))
 
-table-ok-requires : tie.Need-table-ok-requires
+table-ok-requires : tie.Need-table_ok-ordered-requires
 table-ok-requires c κs = search rules
 
-reading-ok-requires : tie.Need-reading-ok-requires
+reading-ok-requires : tie.Need-reading_ok-readable-requires
 reading-ok-requires c κs = search rules
 
-no-state-requires : tie.Need-no-state-requires
+no-state-requires : tie.Need-no_state-requires
 no-state-requires c κs = search rules
 
 -- the table is out of order
-returns : tie.Need-returns
+returns : tie.Need-returns-then-not-ordered
 returns c =
     let t = c.before in (
       eleven _ _ _ _ _ _ c.no_state.result c.no_state.ensures
-          (sym t.before.before.table-ok.ensures ∙ not-true _ t.if1.true),
+          (sym t.before.before.table_ok-ordered.ensures ∙ not-true _ t.if-not-ordered.true-raw),
       cited,
     )
 
-no-state-requires-2 : tie.Need-no-state-requires-2
+no-state-requires-2 : tie.Need-no_state-requires-then-not-readable
 no-state-requires-2 c κs = search rules
 
 -- it is in order, but a number is not finite
-returns-2 : tie.Need-returns-2
+returns-2 : tie.Need-returns-then-not-readable
 returns-2 c =
     let r = c.before in
     let t = r.before in (
-      twelve _ _ _ _ _ _ c.no-state2.result c.no-state2.ensures
-          (sym t.before.before.table-ok.ensures ∙ not-false _ t.if1.false)
-          (sym t.before.reading-ok.ensures ∙ not-true _ r.if2.true),
+      twelve _ _ _ _ _ _ c.no_state-then-not-readable.result c.no_state-then-not-readable.ensures
+          (sym t.before.before.table_ok-ordered.ensures ∙ not-false _ t.if-not-ordered.false-raw)
+          (sym t.before.reading_ok-readable.ensures ∙ not-true _ r.if-not-readable.true-raw),
       cited,
     )
 
 deviation-requires : tie.Need-deviation-requires
 deviation-requires c κs = search rules
 
-band-at-requires : tie.Need-band-at-requires
+band-at-requires : tie.Need-band_at-i-requires
 band-at-requires c κs =
     let t = c.before.before in
-    let f = table_fits _ _ _ _ (sym t.before.before.table-ok.ensures ∙ not-false _ t.if1.false) in
+    let f = table_fits _ _ _ _ (sym t.before.before.table_ok-ordered.ensures ∙ not-false _ t.if-not-ordered.false-raw) in
     (f.kinds_long, f.ends_long, f.few)
 
-no-state-requires-3 : tie.Need-no-state-requires-3
+no-state-requires-3 : tie.Need-no_state-requires-then-states-i
 no-state-requires-3 c κs = search rules
 
 -- no band holds the deviation
-returns-3 : tie.Need-returns-3
+returns-3 : tie.Need-returns-then-states-i
 returns-3 c =
     let g = c.before in
     let d = g.before.before in
     let r = d.before in
     let t = r.before in (
-      gap _ _ _ _ _ _ g.before.band-at.result
-          (g.before.band-at.ensures ∙ ap (band_at _ _ _) d.deviation.ensures)
-          (sym t.before.before.table-ok.ensures ∙ not-false _ t.if1.false)
-          (sym t.before.reading-ok.ensures ∙ not-false _ r.if2.false)
-          c.no-state3.result c.no-state3.ensures g.if3.true,
+      gap _ _ _ _ _ _ g.before.band_at-i.result
+          (g.before.band_at-i.ensures ∙ ap (band_at _ _ _) d.deviation.ensures)
+          (sym t.before.before.table_ok-ordered.ensures ∙ not-false _ t.if-not-ordered.false-raw)
+          (sym t.before.reading_ok-readable.ensures ∙ not-false _ r.if-not-readable.false-raw)
+          c.no_state-then-states-i.result c.no_state-then-states-i.ensures g.if-states-i.true,
       cited,
     )
 
-mul-t11 : tie.Need-overflow-mul-t11
+mul-t11 : tie.Need-offset_bounds-states-i
 mul-t11 c = search rules
 
-shared-slice-read-t13 : tie.Need-shared-slice-read-t13
+shared-slice-read-t13 : tie.Need-bounds-states-i
 shared-slice-read-t13 c = search rules
 
 -- band i holds it
-returns-4 : tie.Need-returns-4
+returns-4 : tie.Need-returns
 returns-4 c =
     let g = c.before in
     let d = g.before.before in
     let r = d.before in
     let t = r.before in (
-      band _ _ _ _ _ _ g.before.band-at.result
-          (g.before.band-at.ensures ∙ ap (band_at _ _ _) d.deviation.ensures)
-          (sym t.before.before.table-ok.ensures ∙ not-false _ t.if1.false)
-          (sym t.before.reading-ok.ensures ∙ not-false _ r.if2.false)
-          g.if3.false,
+      band _ _ _ _ _ _ g.before.band_at-i.result
+          (g.before.band_at-i.ensures ∙ ap (band_at _ _ _) d.deviation.ensures)
+          (sym t.before.before.table_ok-ordered.ensures ∙ not-false _ t.if-not-ordered.false-raw)
+          (sym t.before.reading_ok-readable.ensures ∙ not-false _ r.if-not-readable.false-raw)
+          g.if-states-i.false,
       cited,
     )
 

@@ -19,13 +19,13 @@ not_over nan h = refl
 not_over (inf s) h = refl
 not_over (fin s m e) h = sym h
 
-returns : tie.Need-returns
+returns : tie.Need-returns-then-top-x
 unfolding div neg of_bits
-returns c = under c.before.args.x c.if1.true
+returns c = under c.before.args.x c.if-top-x.true
 
-returns-2 : tie.Need-returns-2
+returns-2 : tie.Need-returns-else-top-x
 unfolding div neg of_bits
-returns-2 c = not_over c.before.args.x c.if1.false
+returns-2 c = not_over c.before.args.x c.if-top-x.false
 
 pub finite_spec : {M : Type 1} → statement M
 finite_spec = tie.close (tie.spec returns returns-2)

@@ -6,23 +6,23 @@ use borrow.Author.Rules.{rules}
 use Rattle.gauge.proofs.holds.Statement.{statement}
 use Rattle.gauge.proofs.holds.Tie as tie
 
-under-upper-requires : tie.Need-under-upper-requires
+under-upper-requires : tie.Need-under_upper-requires
 under-upper-requires c κs = search rules
 
-returns : tie.Need-returns
+returns : tie.Need-returns-then-not-under_upper
 returns c =
     let a = c.before.before.args in
-    not_held a.d a.b (sym c.before.under-upper.ensures ∙ not-true _ c.if1.true)
+    not_held a.d a.b (sym c.before.under_upper.ensures ∙ not-true _ c.if-not-under_upper.true-raw)
 
-from-lower-requires : tie.Need-from-lower-requires
+from-lower-requires : tie.Need-from_lower-requires
 from-lower-requires c κs = search rules
 
-returns-2 : tie.Need-returns-2
+returns-2 : tie.Need-returns
 returns-2 c =
     let t = c.before in
     let a = t.before.before.args in
-    c.from-lower.ensures ∙ held_from a.d a.b
-    (sym t.before.under-upper.ensures ∙ not-false _ t.if1.false)
+    c.from_lower.ensures ∙ held_from a.d a.b
+    (sym t.before.under_upper.ensures ∙ not-false _ t.if-not-under_upper.false-raw)
 
 pub holds_spec : {M : Type 1} → statement M
 holds_spec = tie.close (tie.spec under-upper-requires returns from-lower-requires returns-2)

@@ -13,23 +13,23 @@ use Rattle.gauge.proofs.Loops.{every_more}
 use Rattle.gauge.proofs.kinds_ok.Statement.{statement}
 use Rattle.gauge.proofs.kinds_ok.Tie as tie
 
-abbrev invariant-loop : tie.invariant-loop
-invariant-loop kinds n ok₀ i₀ ok i = (ok ≡ every i 0 (λ k. leb (get_or kinds k 0) 1)) × (i ≤ n)
+abbrev invariant-loop-i : tie.invariant-loop-i
+invariant-loop-i kinds n ok₀ i₀ ok i = (ok ≡ every i 0 (λ k. leb (get_or kinds k 0) 1)) × (i ≤ n)
 
-abbrev decreases-loop : tie.decreases-loop
-decreases-loop kinds n ok₀ i₀ ok i = n - i
+abbrev decreases-loop-i : tie.decreases-loop-i
+decreases-loop-i kinds n ok₀ i₀ ok i = n - i
 
-loop-holds : tie.Need-loop-init invariant-loop decreases-loop
+loop-holds : tie.Need-loop-i-init invariant-loop-i decreases-loop-i
 unfolding every
 loop-holds c = (refl, omega arith)
 
-shared-slice-read-ok : tie.Need-shared-slice-read-ok invariant-loop decreases-loop
+shared-slice-read-ok : tie.Need-bounds-kinds-i invariant-loop-i decreases-loop-i
 shared-slice-read-ok c = search rules
 
-add-i : tie.Need-overflow-add-i invariant-loop decreases-loop
+add-i : tie.Need-overflow_add-i invariant-loop-i decreases-loop-i
 add-i c = search rules
 
-loop-less : tie.Need-loop-smaller invariant-loop decreases-loop
+loop-less : tie.Need-loop-i-smaller invariant-loop-i decreases-loop-i
 loop-less c = search rules
 
 -- the kinds passed, and one more
@@ -44,19 +44,19 @@ all : (kinds : List ℕ) (i : ℕ) (ok : Bool) → ok ≡ every i 0 (λ k. leb (
 unfolding kinds_ok
 all kinds i ok h e = h ∙ ap (λ n. every n 0 (λ k. leb (get_or kinds k 0) 1)) e
 
-loop-again : tie.Need-loop-preserved invariant-loop decreases-loop
+loop-again : tie.Need-loop-i-preserved invariant-loop-i decreases-loop-i
 loop-again c =
-    let l = c.before.before.loop in (
+    let l = c.before.before.loop-i in (
       turn c.before.before.before.args.kinds.now l.i l.ok l.invariant.0,
-      omega (arith, c.before.loop-test.true),
+      omega (arith, c.before.loop-i-test.true),
     )
 
-returns : tie.Need-returns invariant-loop decreases-loop
+returns : tie.Need-returns invariant-loop-i decreases-loop-i
 returns c =
-    let l = c.before.loop in
-    all _ l.i l.ok l.invariant.0 (omega (arith, l.invariant.1, c.loop-test.false))
+    let l = c.before.loop-i in
+    all _ l.i l.ok l.invariant.0 (omega (arith, l.invariant.1, c.loop-i-test.false))
 
 pub kinds_ok_spec : {M : Type 1} → statement M
 kinds_ok_spec =
     tie.close
-    (tie.spec invariant-loop decreases-loop loop-holds shared-slice-read-ok add-i loop-less loop-again returns)
+    (tie.spec invariant-loop-i decreases-loop-i loop-holds shared-slice-read-ok add-i loop-less loop-again returns)

@@ -4,7 +4,7 @@ use borrow.Author.Rules.{rules}
 use Rattle.gauge.proofs.reading_ok.Statement.{statement}
 use Rattle.gauge.proofs.reading_ok.Tie as tie
 
-deviation-requires : tie.Need-deviation-requires
+deviation-requires : tie.Need-deviation-d-requires
 deviation-requires c κs = search rules
 
 finite-requires : tie.Need-finite-requires
@@ -18,8 +18,8 @@ finite-requires-3 c κs = search rules
 
 returns : tie.Need-returns
 returns c =
-    rw (c.before.before.finite.ensures, c.before.finite2.ensures, c.finite3.ensures)
-    (reading_is _ _ _ c.before.before.before.deviation.ensures)
+    rw (c.before.before.finite.ensures, c.before.finite-2.ensures, c.finite-3.ensures)
+    (reading_is _ _ _ c.before.before.before.deviation-d.ensures)
 
 pub reading_ok_spec : {M : Type 1} → statement M
 reading_ok_spec =

@@ -6,43 +6,43 @@ use borrow.Author.Rules.{rules}
 use Rattle.gauge.proofs.step_ok.Statement.{statement}
 use Rattle.gauge.proofs.step_ok.Tie as tie
 
-band-of-requires : tie.Need-band-of-requires
+band-of-requires : tie.Need-band_of-b-requires
 band-of-requires c κs = search rules
 
-band-ok-requires : tie.Need-band-ok-requires
+band-ok-requires : tie.Need-band_ok-requires
 band-ok-requires c κs = search rules
 
-returns : tie.Need-returns
+returns : tie.Need-returns-then-not-band_ok
 returns c =
     let b = c.before.before in
-    sym (step_bad _ _ _ b.band-of.result b.band-of.ensures
-    (sym c.before.band-ok.ensures ∙ not-true _ c.if1.true))
+    sym (step_bad _ _ _ b.band_of-b.result b.band_of-b.ensures
+    (sym c.before.band_ok.ensures ∙ not-true _ c.if-not-band_ok.true-raw))
 
-returns-2 : tie.Need-returns-2
+returns-2 : tie.Need-returns-then-i-eq0
 returns-2 c =
     let o = c.before in
     let b = o.before.before in
-    sym (step_first _ _ _ b.band-of.result b.band-of.ensures
-    (sym o.before.band-ok.ensures ∙ not-false _ o.if1.false) c.if2.true)
+    sym (step_first _ _ _ b.band_of-b.result b.band_of-b.ensures
+    (sym o.before.band_ok.ensures ∙ not-false _ o.if-not-band_ok.false-raw) c.if-i-eq0.true)
 
-sub-band-of : tie.Need-overflow-sub-band-of
+sub-band-of : tie.Need-overflow_sub-i
 sub-band-of c = search rules
 
-band-of-requires-2 : tie.Need-band-of-requires-2
+band-of-requires-2 : tie.Need-band_of-before-requires
 band-of-requires-2 c κs = search rules
 
 follows-requires : tie.Need-follows-requires
 follows-requires c κs = search rules
 
-returns-3 : tie.Need-returns-3
+returns-3 : tie.Need-returns
 returns-3 c =
     let e = c.before.before in
     let o = e.before in
     let b = o.before.before in
     let was = c.before in
-    c.follows.ensures ∙ sym (step_next _ _ _ b.band-of.result b.band-of.ensures
-    was.band-of2.result was.band-of2.ensures
-    (sym o.before.band-ok.ensures ∙ not-false _ o.if1.false) e.if2.false)
+    c.follows.ensures ∙ sym (step_next _ _ _ b.band_of-b.result b.band_of-b.ensures
+    was.band_of-before.result was.band_of-before.ensures
+    (sym o.before.band_ok.ensures ∙ not-false _ o.if-not-band_ok.false-raw) e.if-i-eq0.false)
 
 pub step_ok_spec : {M : Type 1} → statement M
 step_ok_spec =

@@ -9,50 +9,50 @@ use Rattle.gauge.proofs.Loops.{Passed, passed_none, passed_next, every_passed, e
 use Rattle.gauge.proofs.steps_ok.Statement.{statement}
 use Rattle.gauge.proofs.steps_ok.Tie as tie
 
-abbrev invariant-loop : tie.invariant-loop
-invariant-loop kinds ends states limit n i₀ i =
+abbrev invariant-loop-i : tie.invariant-loop-i
+invariant-loop-i kinds ends states limit n i₀ i =
     Passed (step_ok (band_of kinds ends states) limit) true i
 
-abbrev decreases-loop : tie.decreases-loop
-decreases-loop kinds ends states limit n i₀ i = n - i
+abbrev decreases-loop-i : tie.decreases-loop-i
+decreases-loop-i kinds ends states limit n i₀ i = n - i
 
-loop-holds : tie.Need-loop-init invariant-loop decreases-loop
+loop-holds : tie.Need-loop-i-init invariant-loop-i decreases-loop-i
 loop-holds c = passed_none _ _
 
-step-ok-requires : tie.Need-step-ok-requires invariant-loop decreases-loop
+step-ok-requires : tie.Need-step_ok-requires invariant-loop-i decreases-loop-i
 step-ok-requires c κs =
     let pre = c.before.before.before.before.before.requires in
-    (c.loop-test.true, pre.0, pre.1, pre.2)
+    (c.loop-i-test.true, pre.0, pre.1, pre.2)
 
-returns : tie.Need-returns invariant-loop decreases-loop
+returns : tie.Need-returns-then-not-step_ok invariant-loop-i decreases-loop-i
 returns c =
-    let l = c.before.before.before.loop in
-    let t = c.before.before.loop-test.true in
+    let l = c.before.before.before.loop-i in
+    let t = c.before.before.loop-i-test.true in
     sym (every_fails _ l.i _ t
-    (sym c.before.step_ok.ensures ∙ not-true _ c.if1.true))
+    (sym c.before.step_ok.ensures ∙ not-true _ c.if-not-step_ok.true-raw))
 
-add-i : tie.Need-overflow-add-i invariant-loop decreases-loop
+add-i : tie.Need-overflow_add-i invariant-loop-i decreases-loop-i
 add-i c = search rules
 
-loop-less : tie.Need-loop-smaller invariant-loop decreases-loop
+loop-less : tie.Need-loop-i-smaller invariant-loop-i decreases-loop-i
 loop-less c = search rules
 
-loop-again : tie.Need-loop-preserved invariant-loop decreases-loop
+loop-again : tie.Need-loop-i-preserved invariant-loop-i decreases-loop-i
 loop-again c =
-    let l = c.before.before.before.loop in
-    passed_next _ l.i _ l.invariant (sym c.before.step_ok.ensures ∙ not-false _ c.if1.false)
+    let l = c.before.before.before.loop-i in
+    passed_next _ l.i _ l.invariant (sym c.before.step_ok.ensures ∙ not-false _ c.if-not-step_ok.false-raw)
 
-returns-2 : tie.Need-returns-2 invariant-loop decreases-loop
+returns-2 : tie.Need-returns invariant-loop-i decreases-loop-i
 returns-2 c =
-    let l = c.before.loop in
-    sym (every_passed _ l.i _ l.invariant c.loop-test.false)
+    let l = c.before.loop-i in
+    sym (every_passed _ l.i _ l.invariant c.loop-i-test.false)
 
 pub steps_ok_spec : {M : Type 1} → statement M
 steps_ok_spec =
     tie.close
     (tie.spec
-    invariant-loop
-    decreases-loop
+    invariant-loop-i
+    decreases-loop-i
     loop-holds
     step-ok-requires
     returns

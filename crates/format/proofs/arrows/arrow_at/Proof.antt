@@ -8,52 +8,52 @@ use Rattle.format.proofs.arrows.arrow_at.Tie as tie
 number-requires : tie.Need-number-requires
 number-requires c κs = search rules
 
-cast-place : tie.Need-overflow-cast-place
+cast-place : tie.Need-overflow_cast-place
 cast-place c = search rules
 
-mul-place : tie.Need-overflow-mul-place
+mul-place : tie.Need-overflow_mul-place
 mul-place c = search rules
 
-add-place : tie.Need-overflow-add-place
+add-place : tie.Need-overflow_add-place
 add-place c = search rules
 
-mul-place-2 : tie.Need-overflow-mul-place-2
+mul-place-2 : tie.Need-overflow_mul-place-2
 mul-place-2 c = search rules
 
-add-place-2 : tie.Need-overflow-add-place-2
+add-place-2 : tie.Need-overflow_add-place-2
 add-place-2 c = search rules
 
-add-if1 : tie.Need-overflow-add-if1
+add-if1 : tie.Need-overflow_add-place-3
 add-if1 c = search rules
 
-arrow-in-requires : tie.Need-arrow-in-requires
+arrow-in-requires : tie.Need-arrow_in-requires
 arrow-in-requires c κs = search rules
 
-returns : tie.Need-returns
-returns c = c.arrow-in.ensures
+returns : tie.Need-returns-then-place-plant
+returns c = c.arrow_in.ensures
 
-word-at-requires : tie.Need-word-at-requires
+word-at-requires : tie.Need-word_at-from-requires
 word-at-requires c κs = search rules
 
-add-word-at : tie.Need-overflow-add-word-at
+add-word-at : tie.Need-overflow_add-place-4
 add-word-at c = search rules
 
-word-at-requires-2 : tie.Need-word-at-requires-2
+word-at-requires-2 : tie.Need-word_at-action-requires
 word-at-requires-2 c κs = search rules
 
-add-word-at-2 : tie.Need-overflow-add-word-at-2
+add-word-at-2 : tie.Need-overflow_add-place-5
 add-word-at-2 c = search rules
 
-word-at-requires-3 : tie.Need-word-at-requires-3
+word-at-requires-3 : tie.Need-word_at-to-requires
 word-at-requires-3 c κs = search rules
 
-returns-2 : tie.Need-returns-2
+returns-2 : tie.Need-returns
 unfolding arrow_in
 returns-2 c =
     rw (
-      c.before.before.word_at.ensures,
-      c.before.word-at2.ensures,
-      c.word-at3.ensures,
+      c.before.before.word_at-from.ensures,
+      c.before.word_at-action.ensures,
+      c.word_at-to.ensures,
       c.before.before.before.before.number.ensures,
     )
 

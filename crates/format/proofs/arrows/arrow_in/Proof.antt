@@ -7,43 +7,43 @@ use Rattle.format.proofs.arrows.arrow_in.Tie as tie
 number-requires : tie.Need-number-requires
 number-requires c κs = search rules
 
-cast-place : tie.Need-overflow-cast-place
+cast-place : tie.Need-overflow_cast-place
 cast-place c = search rules
 
-mul-place : tie.Need-overflow-mul-place
+mul-place : tie.Need-overflow_mul-place
 mul-place c = search rules
 
-add-place : tie.Need-overflow-add-place
+add-place : tie.Need-overflow_add-place
 add-place c = search rules
 
-mul-place-2 : tie.Need-overflow-mul-place-2
+mul-place-2 : tie.Need-overflow_mul-place-2
 mul-place-2 c = search rules
 
-add-place-2 : tie.Need-overflow-add-place-2
+add-place-2 : tie.Need-overflow_add-place-2
 add-place-2 c = search rules
 
-word-in-requires : tie.Need-word-in-requires
+word-in-requires : tie.Need-word_in-from-requires
 word-in-requires c κs = search rules
 
-add-word-in : tie.Need-overflow-add-word-in
+add-word-in : tie.Need-overflow_add-place-3
 add-word-in c = search rules
 
-word-in-requires-2 : tie.Need-word-in-requires-2
+word-in-requires-2 : tie.Need-word_in-action-requires
 word-in-requires-2 c κs = search rules
 
-add-word-in-2 : tie.Need-overflow-add-word-in-2
+add-word-in-2 : tie.Need-overflow_add-place-4
 add-word-in-2 c = search rules
 
-word-in-requires-3 : tie.Need-word-in-requires-3
+word-in-requires-3 : tie.Need-word_in-to-requires
 word-in-requires-3 c κs = search rules
 
 returns : tie.Need-returns
 unfolding arrow_in
 returns c =
     rw (
-      c.before.before.word_in.ensures,
-      c.before.word-in2.ensures,
-      c.word-in3.ensures,
+      c.before.before.word_in-from.ensures,
+      c.before.word_in-action.ensures,
+      c.word_in-to.ensures,
       c.before.before.before.number.ensures,
     )
 

@@ -17,7 +17,7 @@ number-requires-2 c κs = search rules
 number-requires-3 : tie.Need-number-requires-3
 number-requires-3 c κs = search rules
 
-arrows-ascend-requires : tie.Need-arrows-ascend-requires
+arrows-ascend-requires : tie.Need-arrows_ascend-requires
 arrows-ascend-requires c κs =
     let start = c.before.before.before.before in
     let h = plant_head start.args.plant.now start.requires in
@@ -26,11 +26,11 @@ arrows-ascend-requires c κs =
 returns : tie.Need-returns
 unfolding plant_of
 returns c =
-    c.arrows-ascend.ensures
+    c.arrows_ascend.ensures
     ∙ simp (
       c.before.before.before.number.ensures,
-      c.before.before.number2.ensures,
-      c.before.number3.ensures,
+      c.before.before.number-2.ensures,
+      c.before.number-3.ensures,
     )
 
 pub arrows_ok_spec : {M : Type 1} → statement M

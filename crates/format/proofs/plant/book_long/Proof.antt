@@ -8,31 +8,31 @@ use Rattle.format.proofs.plant.book_long.Statement.{statement}
 use Rattle.format.proofs.plant.book_long.Tie as tie
 
 -- src/plant.rt:140:18
-number-requires : tie.Need-number-requires
+number-requires : tie.Need-number-states-requires
 number-requires c κs = search rules
 
 -- src/plant.rt:140:18
-cast-states : tie.Need-overflow-cast-states
+cast-states : tie.Need-overflow_cast-states
 cast-states c = search rules
 
 -- src/plant.rt:141:34
-number-requires-2 : tie.Need-number-requires-2
+number-requires-2 : tie.Need-number-requires
 number-requires-2 c κs = search rules
 
 -- src/plant.rt:141:34
-cast-entries : tie.Need-overflow-cast-entries
+cast-entries : tie.Need-overflow_cast-entries
 cast-entries c = search rules
 
 -- src/plant.rt:141:24
 -- a product of two-byte numbers
-small : (c : tie.After-number2) → c.before.number.result * c.number2.result < 2 ^ 32
+small : (c : tie.After-number) → c.before.number-states.result * c.number.result < 2 ^ 32
 small c = product_below 16 16 (omega arith) (omega arith)
 
-mul-entries : tie.Need-overflow-mul-entries
+mul-entries : tie.Need-overflow_mul-entries
 mul-entries c = omega (arith, small c)
 
 -- src/plant.rt:141:19
-mul-entries-2 : tie.Need-overflow-mul-entries-2
+mul-entries-2 : tie.Need-overflow_mul-entries-2
 mul-entries-2 c = omega (arith, small c)
 
 -- src/plant.rt:142:8
@@ -40,34 +40,34 @@ settles-requires : tie.Need-settles-requires
 settles-requires c κs = search rules
 
 -- src/plant.rt:143:22
-mul-result : tie.Need-overflow-mul-result
+mul-result : tie.Need-overflow_mul-result
 mul-result c = search rules
 
 -- src/plant.rt:143:22
-add-result : tie.Need-overflow-add-result
+add-result : tie.Need-overflow_add-result
 add-result c = omega (arith, small c.before.before)
 
 -- src/plant.rt:143:16
-add-result-2 : tie.Need-overflow-add-result-2
+add-result-2 : tie.Need-overflow_add-result-then-settles
 add-result-2 c = omega (arith, small c.before.before)
 
 -- src/plant.rt:143:9
-returns : tie.Need-returns
+returns : tie.Need-returns-then-settles
 returns c =
     let told = c.before.before in
-    long_staged told.before.before.before.args.plant.now _ _ _ c.before.settles.ensures c.if1.true
-    told.before.number.ensures told.number2.ensures
+    long_staged told.before.before.before.args.plant.now _ _ _ c.before.settles.ensures c.if-settles.true
+    told.before.number-states.ensures told.number.ensures
 
 -- src/plant.rt:145:5
-add-result-3 : tie.Need-overflow-add-result-3
+add-result-3 : tie.Need-overflow_add-result-2
 add-result-3 c = omega (arith, small c.before.before)
 
 -- src/plant.rt:136:1
-returns-2 : tie.Need-returns-2
+returns-2 : tie.Need-returns
 returns-2 c =
     let told = c.before.before in
-    long_plain told.before.before.before.args.plant.now _ _ _ c.before.settles.ensures c.if1.false
-    told.before.number.ensures told.number2.ensures
+    long_plain told.before.before.before.args.plant.now _ _ _ c.before.settles.ensures c.if-settles.false
+    told.before.number-states.ensures told.number.ensures
 
 pub book_long_spec : {M : Type 1} → statement M
 book_long_spec =

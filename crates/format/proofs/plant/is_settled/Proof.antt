@@ -9,10 +9,10 @@ use Rattle.format.proofs.plant.is_settled.Tie as tie
 label-requires : tie.Need-label-requires
 label-requires c κs = search rules
 
-cast-bit-at : tie.Need-overflow-cast-bit-at
+cast-bit-at : tie.Need-overflow_cast-label
 cast-bit-at c = search rules
 
-bit-at-requires : tie.Need-bit-at-requires
+bit-at-requires : tie.Need-bit_at-requires
 bit-at-requires c κs = search rules
 
 returns : tie.Need-returns

@@ -11,25 +11,25 @@ use Rattle.format.proofs.plant.label.Tie as tie
 number-requires : tie.Need-number-requires
 number-requires c κs = search rules
 
-cast-if1 : tie.Need-overflow-cast-if1
+cast-if1 : tie.Need-overflow_cast-number
 cast-if1 c = search rules
 
-returns : tie.Need-returns
+returns : tie.Need-returns-then-number-state
 unfolding plant_of
 returns c =
     let a = c.before.before.before.args in
     sym (label_past a.plant.now 16 _ a.state (omega arith))
 
-mul-word-at : tie.Need-overflow-mul-word-at
+mul-word-at : tie.Need-overflow_mul-state
 mul-word-at c = search rules
 
-add-word-at : tie.Need-overflow-add-word-at
+add-word-at : tie.Need-overflow_add-state
 add-word-at c = search rules
 
-word-at-requires : tie.Need-word-at-requires
+word-at-requires : tie.Need-word_at-requires
 word-at-requires c κs = search rules
 
-returns-2 : tie.Need-returns-2
+returns-2 : tie.Need-returns
 unfolding plant_of
 returns-2 c =
     let a = c.before.before.before.before.args in

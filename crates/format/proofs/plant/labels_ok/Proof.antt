@@ -13,31 +13,31 @@ use Rattle.format.proofs.plant.labels_ok.Tie as tie
 number-requires : tie.Need-number-requires
 number-requires c κs = search rules
 
-cast-labels-within : tie.Need-overflow-cast-labels-within
+cast-labels-within : tie.Need-overflow_cast-number
 cast-labels-within c = search rules
 
 number-requires-2 : tie.Need-number-requires-2
 number-requires-2 c κs = search rules
 
-cast-labels-within-2 : tie.Need-overflow-cast-labels-within-2
+cast-labels-within-2 : tie.Need-overflow_cast-number-2
 cast-labels-within-2 c = search rules
 
 settles-requires : tie.Need-settles-requires
 settles-requires c κs = search rules
 
-labels-within-requires : tie.Need-labels-within-requires
+labels-within-requires : tie.Need-labels_within-requires
 labels-within-requires c κs =
     let start = c.before.before.before.before in
     let h = plant_head start.args.plant.now start.requires in
-    omega (arith, c.before.before.number.ensures, c.before.number2.ensures)
+    omega (arith, c.before.before.number.ensures, c.before.number-2.ensures)
 
 returns : tie.Need-returns
 unfolding plant_of
 returns c =
     let plant = c.before.before.before.before.before.args.plant.now in
-    c.labels-within.ensures
+    c.labels_within.ensures
     ∙ ap₂ (λ (s n : ℕ). labels_ok c.before.settles.result n (words s (drop 16 plant)))
-    c.before.before.before.number.ensures c.before.before.number2.ensures
+    c.before.before.before.number.ensures c.before.before.number-2.ensures
     ∙ ap (λ (t : Bool). labels_ok t (word 2 plant) (words (word 0 plant) (drop 16 plant))) c.before.settles.ensures
 
 pub labels_ok_spec : {M : Type 1} → statement M

@@ -11,70 +11,70 @@ use Rattle.format.proofs.Parts.{Low, Rest, labels_start, labels_join, labels_end
 use Rattle.format.proofs.plant.labels_within.Statement.{statement}
 use Rattle.format.proofs.plant.labels_within.Tie as tie
 
-abbrev invariant-loop : tie.invariant-loop
-invariant-loop plant count goals free limit all₀ at₀ left₀ all at left =
+abbrev invariant-loop-left : tie.invariant-loop-left
+invariant-loop-left plant count goals free limit all₀ at₀ left₀ all at left =
     (at + 2 * left ≤ length plant)
     × (Rest free goals plant 16 count ≡ Low free goals all && Rest free goals plant at left)
 
-abbrev decreases-loop : tie.decreases-loop
-decreases-loop plant count goals free limit all₀ at₀ left₀ all at left = left
+abbrev decreases-loop-left : tie.decreases-loop-left
+decreases-loop-left plant count goals free limit all₀ at₀ left₀ all at left = left
 
-add-limit : tie.Need-overflow-add-limit invariant-loop decreases-loop
+add-limit : tie.Need-overflow_add-limit invariant-loop-left decreases-loop-left
 add-limit c = omega arith
 
-shl-limit : tie.Need-overflow-shl-limit invariant-loop decreases-loop
+shl-limit : tie.Need-overflow_shl-limit invariant-loop-left decreases-loop-left
 shl-limit c = omega arith
 
-loop-holds : tie.Need-loop-init invariant-loop decreases-loop
+loop-holds : tie.Need-loop-left-init invariant-loop-left decreases-loop-left
 loop-holds c =
     let a = c.before.args in
     (c.before.requires.0, labels_start a.free a.goals a.plant.now 16 a.count)
 
-word-in-requires : tie.Need-word-in-requires invariant-loop decreases-loop
+word-in-requires : tie.Need-word_in-all-requires invariant-loop-left decreases-loop-left
 word-in-requires c κs = omega arith
 
-add_at : tie.Need-overflow-add-at invariant-loop decreases-loop
+add_at : tie.Need-overflow_add-at invariant-loop-left decreases-loop-left
 add_at c = omega arith
 
-sub-left : tie.Need-overflow-sub-left invariant-loop decreases-loop
+sub-left : tie.Need-overflow_sub-left invariant-loop-left decreases-loop-left
 sub-left c = omega arith
 
-loop-less : tie.Need-loop-smaller invariant-loop decreases-loop
+loop-less : tie.Need-loop-left-smaller invariant-loop-left decreases-loop-left
 loop-less c = omega arith
 
-loop-again : tie.Need-loop-preserved invariant-loop decreases-loop
+loop-again : tie.Need-loop-left-preserved invariant-loop-left decreases-loop-left
 loop-again c =
     let turn = c.before in
     let a = turn.before.before.before.args in
-    let l = turn.before.loop in (
+    let l = turn.before.loop-left in (
       omega arith,
       l.invariant.1
-          ∙ labels_join a.free a.goals a.plant.now l.all l.at l.left _ turn.loop-test.true
-          c.word_in.ensures,
+          ∙ labels_join a.free a.goals a.plant.now l.all l.at l.left _ turn.loop-left-test.true
+          c.word_in-all.ensures,
     )
 
-checked-requires : tie.Need-checked-requires invariant-loop decreases-loop
+checked-requires : tie.Need-checked-requires invariant-loop-left decreases-loop-left
 checked-requires c κs = omega arith
 
-cast-result : tie.Need-overflow-cast-result invariant-loop decreases-loop
+cast-result : tie.Need-overflow_cast-result invariant-loop-left decreases-loop-left
 cast-result c = omega arith
 
-returns : tie.Need-returns invariant-loop decreases-loop
+returns : tie.Need-returns invariant-loop-left decreases-loop-left
 returns c =
     let done = c.before in
-    let l = done.before.loop in
+    let l = done.before.loop-left in
     let a = done.before.before.before.args in
     ap₂ ltb c.checked.ensures (power_next a.goals (omega arith))
     ∙ sym
     (l.invariant.1
-    ∙ labels_end a.free a.goals a.plant.now l.all l.at l.left done.loop-test.false)
+    ∙ labels_end a.free a.goals a.plant.now l.all l.at l.left done.loop-left-test.false)
 
 pub labels_within_spec : {M : Type 1} → statement M
 labels_within_spec =
     tie.close
     (tie.spec
-    invariant-loop
-    decreases-loop
+    invariant-loop-left
+    decreases-loop-left
     add-limit
     shl-limit
     loop-holds

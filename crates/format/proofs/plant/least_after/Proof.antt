@@ -9,25 +9,25 @@ use Rattle.format.proofs.Parts.{least_is}
 use Rattle.format.proofs.plant.least_after.Statement.{statement}
 use Rattle.format.proofs.plant.least_after.Tie as tie
 
-rank-of-requires : tie.Need-rank-of-requires
+rank-of-requires : tie.Need-rank_of-rank-requires
 rank-of-requires c κs = search rules
 
-add-result : tie.Need-overflow-add-result
+add-result : tie.Need-overflow_add-result
 add-result c = search rules
 
-returns : tie.Need-returns
+returns : tie.Need-returns-then-arrow-states
 returns c =
     let told = c.before.before.before.before in
     let a = told.before.args in
-    sym (least_is a.states a.moves a.least a.arrow told.rank-of.ensures
-    ∙ ap (λ (b : Bool). pick b (told.rank-of.result + 1) 0) c.if1.true)
+    sym (least_is a.states a.moves a.least a.arrow told.rank_of-rank.ensures
+    ∙ ap (λ (b : Bool). pick b (told.rank_of-rank.result + 1) 0) c.if-arrow-states.true)
 
-returns-2 : tie.Need-returns-2
+returns-2 : tie.Need-returns
 returns-2 c =
     let told = c.before.before.before.before in
     let a = told.before.args in
-    sym (least_is a.states a.moves a.least a.arrow told.rank-of.ensures
-    ∙ ap (λ (b : Bool). pick b (told.rank-of.result + 1) 0) c.if1.false)
+    sym (least_is a.states a.moves a.least a.arrow told.rank_of-rank.ensures
+    ∙ ap (λ (b : Bool). pick b (told.rank_of-rank.result + 1) 0) c.if-arrow-states.false)
 
 pub least_after_spec : {M : Type 1} → statement M
 least_after_spec = tie.close (tie.spec rank-of-requires add-result returns returns-2)

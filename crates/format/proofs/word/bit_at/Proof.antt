@@ -7,13 +7,13 @@ use Rattle.format.proofs.Words.{no_bit}
 use Rattle.format.proofs.word.bit_at.Statement.{statement}
 use Rattle.format.proofs.word.bit_at.Tie as tie
 
-returns : tie.Need-returns
-returns c = let a = c.before.args in sym (no_bit 32 a.i a.v c.before.ranges.v.fits c.if1.true)
+returns : tie.Need-returns-then-i-ge32
+returns c = let a = c.before.args in sym (no_bit 32 a.i a.v c.before.ranges.v.fits c.if-i-ge32.true)
 
-shr-result : tie.Need-overflow-shr-result
+shr-result : tie.Need-overflow_shr-result
 shr-result c = search rules
 
-returns-2 : tie.Need-returns-2
+returns-2 : tie.Need-returns
 unfolding bit
 returns-2 c = refl
 

@@ -7,17 +7,17 @@ use Rattle.format.proofs.Words.{power, mask_fits}
 use Rattle.format.proofs.word.mask_ok.Statement.{statement}
 use Rattle.format.proofs.word.mask_ok.Tie as tie
 
-returns : tie.Need-returns
+returns : tie.Need-returns-then-moves-ge32
 returns c =
     let a = c.before.args in
-    sym (mask_fits 32 a.moves a.mask c.before.ranges.mask.fits c.if1.true)
+    sym (mask_fits 32 a.moves a.mask c.before.ranges.mask.fits c.if-moves-ge32.true)
 
-shl-result : tie.Need-overflow-shl-result
+shl-result : tie.Need-overflow_shl-result
 shl-result c = search rules
 
-returns-2 : tie.Need-returns-2
+returns-2 : tie.Need-returns
 unfolding mask_ok
-returns-2 c = rw (power c.before.args.moves c.if1.false)
+returns-2 c = rw (power c.before.args.moves c.if-moves-ge32.false)
 
 pub mask_ok_spec : {M : Type 1} → statement M
 mask_ok_spec = tie.close (tie.spec returns shl-result returns-2)

@@ -5,10 +5,10 @@ use Rattle.format.proofs.Words.{word_number}
 use Rattle.format.proofs.word.number.Statement.{statement}
 use Rattle.format.proofs.word.number.Tie as tie
 
-mul-word-at : tie.Need-overflow-mul-word-at
+mul-word-at : tie.Need-overflow_mul-i
 mul-word-at c = search rules
 
-word-at-requires : tie.Need-word-at-requires
+word-at-requires : tie.Need-word_at-requires
 word-at-requires c κs = search rules
 
 returns : tie.Need-returns

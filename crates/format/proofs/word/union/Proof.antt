@@ -7,50 +7,50 @@ use Rattle.format.proofs.Unions.{Joined, joined_start, joined_more, joined_end}
 use Rattle.format.proofs.word.union.Statement.{statement}
 use Rattle.format.proofs.word.union.Tie as tie
 
-abbrev invariant-loop : tie.invariant-loop
-invariant-loop masks all₀ at₀ all at = Joined masks all at
+abbrev invariant-loop-at : tie.invariant-loop-at
+invariant-loop-at masks all₀ at₀ all at = Joined masks all at
 
-abbrev decreases-loop : tie.decreases-loop
-decreases-loop masks all₀ at₀ all at = length masks - at
+abbrev decreases-loop-at : tie.decreases-loop-at
+decreases-loop-at masks all₀ at₀ all at = length masks - at
 
-loop-holds : tie.Need-loop-init invariant-loop decreases-loop
+loop-holds : tie.Need-loop-at-init invariant-loop-at decreases-loop-at
 loop-holds c = joined_start _
 
-sub-loop : tie.Need-overflow-sub-loop invariant-loop decreases-loop
+sub-loop : tie.Need-overflow_sub-masks invariant-loop-at decreases-loop-at
 sub-loop c = search rules
 
-sub-mask-at : tie.Need-overflow-sub-mask-at invariant-loop decreases-loop
+sub-mask-at : tie.Need-slice_bounds-mask_at-count invariant-loop-at decreases-loop-at
 sub-mask-at c = search rules
 
-part-mask-at-start : tie.Need-slice-bounds-mask-at-start invariant-loop decreases-loop
+part-mask-at-start : tie.Need-slice_bounds-mask_at-start invariant-loop-at decreases-loop-at
 part-mask-at-start c = search rules
 
-part-mask-at-end : tie.Need-slice-bounds-mask-at-end invariant-loop decreases-loop
+part-mask-at-end : tie.Need-slice_bounds-mask_at-end invariant-loop-at decreases-loop-at
 part-mask-at-end c = search rules
 
-mask-at-requires : tie.Need-mask-at-requires invariant-loop decreases-loop
+mask-at-requires : tie.Need-mask_at-all-requires invariant-loop-at decreases-loop-at
 mask-at-requires c κs = search rules
 
-add_at : tie.Need-overflow-add-at invariant-loop decreases-loop
+add_at : tie.Need-overflow_add-at invariant-loop-at decreases-loop-at
 add_at c = search rules
 
-loop-less : tie.Need-loop-smaller invariant-loop decreases-loop
+loop-less : tie.Need-loop-at-smaller invariant-loop-at decreases-loop-at
 loop-less c = search rules
 
-loop-again : tie.Need-loop-preserved invariant-loop decreases-loop
+loop-again : tie.Need-loop-at-preserved invariant-loop-at decreases-loop-at
 loop-again c =
     let l = c.before.before in
-    joined_more l.before.loop.invariant l.loop-test.true c.mask_at.ensures
+    joined_more l.before.loop-at.invariant l.loop-at-test.true c.mask_at-all.ensures
 
-returns : tie.Need-returns invariant-loop decreases-loop
-returns c = joined_end c.before.loop.invariant c.loop-test.false
+returns : tie.Need-returns invariant-loop-at decreases-loop-at
+returns c = joined_end c.before.loop-at.invariant c.loop-at-test.false
 
 pub union_spec : {M : Type 1} → statement M
 union_spec =
     tie.close
     (tie.spec
-    invariant-loop
-    decreases-loop
+    invariant-loop-at
+    decreases-loop-at
     loop-holds
     sub-loop
     sub-mask-at

@@ -6,13 +6,13 @@ use Rattle.format.proofs.Words.{word_here}
 use Rattle.format.proofs.word.word_in.Statement.{statement}
 use Rattle.format.proofs.word.word_in.Tie as tie
 
-shared-slice-read-pair : tie.Need-shared-slice-read-pair
+shared-slice-read-pair : tie.Need-bounds-s-at
 shared-slice-read-pair c = search rules
 
-add-pair : tie.Need-overflow-add-pair
+add-pair : tie.Need-overflow_add-at
 add-pair c = search rules
 
-shared-slice-read-pair-2 : tie.Need-shared-slice-read-pair-2
+shared-slice-read-pair-2 : tie.Need-bounds-s-at-2
 shared-slice-read-pair-2 c = search rules
 
 pair-requires : tie.Need-pair-requires
