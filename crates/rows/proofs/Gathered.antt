@@ -15,7 +15,7 @@ use borrow.Author.Tests.{leb-true, le-leb, eqb-true, eq-eqb, ltb-true, lt-ltb, l
 use Rattle.statements.specs.Sets.{bit, every}
 use Rattle.statements.specs.Plants.{word}
 use Rattle.statements.specs.Books.{mask_ok}
-use Rattle.sets.proofs.Tests.{decided, not_both, and-true, and_left, and_right, and_iff}
+use Rattle.sets.proofs.Tests.{decided, not_both, and_true, and_left, and_right, and_iff}
 use Rattle.sets.proofs.Tests.{or_left, or_right, or_cases, same_test}
 use Rattle.sets.proofs.Bits.{all_bits, or_bit, one_bit}
 use Rattle.format.proofs.Words.{no_bit, word_further}
@@ -63,8 +63,8 @@ told {mask} {waits} {moves} {set} h =
 tell : {mask waits moves set : ℕ} → Gathered mask waits moves set → gathered mask waits moves set ≡ true
 unfolding gathered
 tell {mask} {waits} {moves} {set} g =
-    and-true (le-leb waits 1023 (omega (arith, g.waits_low)))
-    (and-true (le-leb moves 31 (omega (arith, g.moves_low))) (eq-eqb (bit_or set mask) mask g.in_mask))
+    and_true (le-leb waits 1023 (omega (arith, g.waits_low)))
+    (and_true (le-leb moves 31 (omega (arith, g.moves_low))) (eq-eqb (bit_or set mask) mask g.in_mask))
 
 -- before the first entry
 pub gathered_none : (mask : ℕ) → gathered mask 0 0 0 ≡ true
@@ -86,7 +86,7 @@ module _ (mask waits moves set wait move : ℕ) (few : mask < 2 ^ 32) where
       let m = low_both 5 moves move g.moves_low in
       let same : move % 32 ≡ move = mod-eq_of_lt m.1 in
       let each = set_within (bit_or set (2 ^ (move % 32))) mask g.in_mask in
-      and-true
+      and_true
       (tell
       (record {
         waits_low = w.0;
@@ -94,7 +94,7 @@ module _ (mask waits moves set wait move : ℕ) (few : mask < 2 ^ 32) where
         in_mask =
             within_set set mask (λ u e. each u (or_bit u set (2 ^ (move % 32)) ∙ or_left (bit u set) _ e));
       }))
-      (and-true (le-leb wait 1023 (omega (arith, w.1)))
+      (and_true (le-leb wait 1023 (omega (arith, w.1)))
       (each move
       (or_bit move set (2 ^ (move % 32))
       ∙ or_right (bit move set) _ (one_bit move (move % 32) ∙ eq-eqb _ _ (sym same)))))
@@ -140,7 +140,7 @@ entry_held b u mask at wait move ok ew em =
     rw (← ew, ← known)
     (ap (λ (t : Bool). leb wait 1023 && t)
     (same_test (ltb move u && bit move mask) (bit move mask) (and_right (ltb move u) (bit move mask))
-    (λ on. and-true (below on) on)))
+    (λ on. and_true (below on) on)))
   where
     below : bit move mask ≡ true → ltb move u ≡ true
     below on =

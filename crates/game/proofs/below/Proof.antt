@@ -8,46 +8,46 @@ use Rattle.game.specs.Walked.{all_below}
 use Rattle.game.proofs.below.Statement.{statement}
 use Rattle.game.proofs.below.Tie as tie
 
-abbrev invariant-loop : tie.invariant-loop
-invariant-loop xs limit i₀ good₀ i good = Gathered (length xs) (λ k. ltb (get_or xs k 0) limit) i good
+abbrev invariant-loop-i : tie.invariant-loop-i
+invariant-loop-i xs limit i₀ good₀ i good = Gathered (length xs) (λ k. ltb (get_or xs k 0) limit) i good
 
-abbrev decreases-loop : tie.decreases-loop
-decreases-loop xs limit i₀ good₀ i good = length xs - i
+abbrev decreases-loop-i : tie.decreases-loop-i
+decreases-loop-i xs limit i₀ good₀ i good = length xs - i
 
-loop-holds : tie.Need-loop-init invariant-loop decreases-loop
+loop-holds : tie.Need-loop-i-init invariant-loop-i decreases-loop-i
 loop-holds c = gathered_none _ _
 
-mul-good : tie.Need-overflow-mul-good invariant-loop decreases-loop
+mul-good : tie.Need-offset_bounds-xs-i invariant-loop-i decreases-loop-i
 mul-good c = omega arith
 
-shared-slice-read-good : tie.Need-shared-slice-read-good invariant-loop decreases-loop
+shared-slice-read-good : tie.Need-bounds-xs-i invariant-loop-i decreases-loop-i
 shared-slice-read-good c = omega arith
 
-add-i : tie.Need-overflow-add-i invariant-loop decreases-loop
+add-i : tie.Need-overflow_add-i invariant-loop-i decreases-loop-i
 add-i c = omega arith
 
-loop-less : tie.Need-loop-smaller invariant-loop decreases-loop
+loop-less : tie.Need-loop-i-smaller invariant-loop-i decreases-loop-i
 loop-less c = omega arith
 
-loop-again : tie.Need-loop-preserved invariant-loop decreases-loop
+loop-again : tie.Need-loop-i-preserved invariant-loop-i decreases-loop-i
 loop-again c =
-    let l = c.before.before.loop in
-    let s = c.before.before.before.args in
+    let l = c.loop-i in
+    let s = c.args in
     gathered_more _ (λ k. ltb (get_or s.xs.now k 0) s.limit) l.i l.invariant (omega arith)
 
-returns : tie.Need-returns invariant-loop decreases-loop
+returns : tie.Need-returns invariant-loop-i decreases-loop-i
 unfolding all_below
 returns c =
-    let l = c.before.loop in
-    let s = c.before.before.args in
+    let l = c.loop-i in
+    let s = c.args in
     gathered_all _ (λ k. ltb (get_or s.xs.now k 0) s.limit) l.i l.invariant (omega arith)
 
 pub below_spec : {M : Type 1} → statement M
 below_spec =
     tie.close
     (tie.spec
-    invariant-loop
-    decreases-loop
+    invariant-loop-i
+    decreases-loop-i
     loop-holds
     mul-good
     shared-slice-read-good

@@ -4,7 +4,7 @@ use Rattle.game.proofs.Bits.{misses_or}
 use Rattle.game.proofs.misses.Statement.{statement}
 use Rattle.game.proofs.misses.Tie as tie
 
-sub-result : tie.Need-overflow-sub-result
+sub-result : tie.Need-overflow_sub-result
 sub-result c = search rules
 
 returns : tie.Need-returns

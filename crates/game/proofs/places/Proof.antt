@@ -4,11 +4,11 @@ use Rattle.game.specs.Packed.{places_in}
 use Rattle.game.proofs.places.Statement.{statement}
 use Rattle.game.proofs.places.Tie as tie
 
-returns : tie.Need-returns
+returns : tie.Need-returns-then-length-lt2049
 unfolding places_in
-returns c = omega (arith, c.if1.true)
+returns c = omega (arith, c.if-length-lt2049.true)
 
-returns-2 : tie.Need-returns-2
+returns-2 : tie.Need-returns
 unfolding places_in
 returns-2 c = omega arith
 

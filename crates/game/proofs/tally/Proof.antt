@@ -7,73 +7,73 @@ use Rattle.sort.proofs.Steps.{Tallied, tally_start, tally_most, tally_step, tall
 use Rattle.game.proofs.tally.Statement.{statement}
 use Rattle.game.proofs.tally.Tie as tie
 
-abbrev invariant-loop : tie.invariant-loop
-invariant-loop rev counts₀ a₀ counts a = (length counts ≡ length counts₀) × Tallied (length counts₀) rev counts a
+abbrev invariant-loop-a : tie.invariant-loop-a
+invariant-loop-a rev counts₀ a₀ counts a = (length counts ≡ length counts₀) × Tallied (length counts₀) rev counts a
 
-abbrev decreases-loop : tie.decreases-loop
-decreases-loop rev counts₀ a₀ counts a = length rev - a
+abbrev decreases-loop-a : tie.decreases-loop-a
+decreases-loop-a rev counts₀ a₀ counts a = length rev - a
 
-loop-holds : tie.Need-loop-init invariant-loop decreases-loop
+loop-holds : tie.Need-loop-a-init invariant-loop-a decreases-loop-a
 loop-holds c = (refl, tally_start _ c.args.rev.now c.args.counts.now c.requires.2)
 
 -- the group of the position under way has a counter
-in_counts : (c : tie.In-loop invariant-loop decreases-loop)
-    → let s = c.before.before.args in
-    get_or s.rev.now c.before.loop.a 0 < length s.counts.now
-in_counts c = c.before.before.requires.1 _ c.loop-test.true
+in_counts : (c : tie.In-loop-a invariant-loop-a decreases-loop-a)
+    → let s = c.args in
+    get_or s.rev.now c.loop-a.a 0 < length s.counts.now
+in_counts c = c.requires.1 _ c.loop-a-test.true
 
-mul-g : tie.Need-overflow-mul-g invariant-loop decreases-loop
+mul-g : tie.Need-offset_bounds-rev-a invariant-loop-a decreases-loop-a
 mul-g c = omega arith
 
-shared-slice-read-g : tie.Need-shared-slice-read-g invariant-loop decreases-loop
+shared-slice-read-g : tie.Need-bounds-rev-a invariant-loop-a decreases-loop-a
 shared-slice-read-g c = omega arith
 
-cast-g : tie.Need-overflow-cast-g invariant-loop decreases-loop
-cast-g c = omega (arith, c.shared-slice-known.given c.before.before.loop.a)
+cast-g : tie.Need-overflow_cast-g invariant-loop-a decreases-loop-a
+cast-g c = omega (arith, c.shared_slice_known-1.given c.loop-a.a)
 
-mul-counts : tie.Need-overflow-mul-counts invariant-loop decreases-loop
-mul-counts c = omega (arith, c.shared-slice-known.given c.before.before.loop.a)
+mul-counts : tie.Need-offset_bounds-counts-g invariant-loop-a decreases-loop-a
+mul-counts c = omega (arith, c.shared_slice_known-1.given c.loop-a.a)
 
-slice-read-counts : tie.Need-slice-read-counts invariant-loop decreases-loop
-slice-read-counts c = omega (arith, in_counts c.before.before, c.before.before.before.loop.invariant.0)
+slice-read-counts : tie.Need-bounds-counts-g invariant-loop-a decreases-loop-a
+slice-read-counts c = omega (arith, in_counts c.before.before, c.loop-a.invariant.0)
 
-add-counts : tie.Need-overflow-add-counts invariant-loop decreases-loop
+add-counts : tie.Need-overflow_add-counts invariant-loop-a decreases-loop-a
 add-counts c =
-    let l = c.before.before.before.loop in
+    let l = c.loop-a in
     omega (arith, tally_most _ _ _ _ l.invariant.1 (in_counts c.before.before))
 
-mul-counts-2 : tie.Need-overflow-mul-counts-2 invariant-loop decreases-loop
-mul-counts-2 c = omega (arith, c.before.shared-slice-known.given c.before.before.before.loop.a)
+mul-counts-2 : tie.Need-offset_bounds-counts-g-in-loop-a invariant-loop-a decreases-loop-a
+mul-counts-2 c = omega (arith, c.shared_slice_known-1.given c.loop-a.a)
 
-slice-write-counts : tie.Need-slice-write-counts invariant-loop decreases-loop
-slice-write-counts c = omega (arith, in_counts c.before.before, c.before.before.before.loop.invariant.0)
+slice-write-counts : tie.Need-bounds-counts-g-in-loop-a invariant-loop-a decreases-loop-a
+slice-write-counts c = omega (arith, in_counts c.before.before, c.loop-a.invariant.0)
 
-add_a : tie.Need-overflow-add-a invariant-loop decreases-loop
+add_a : tie.Need-overflow_add-a invariant-loop-a decreases-loop-a
 add_a c = omega arith
 
-loop-less : tie.Need-loop-smaller invariant-loop decreases-loop
+loop-less : tie.Need-loop-a-smaller invariant-loop-a decreases-loop-a
 loop-less c = omega arith
 
-loop-again : tie.Need-loop-preserved invariant-loop decreases-loop
+loop-again : tie.Need-loop-a-preserved invariant-loop-a decreases-loop-a
 loop-again c =
-    let l = c.before.before.before.loop in (
+    let l = c.loop-a in (
       simp length-set l.invariant.0,
-      tally_step _ _ _ _ l.invariant.1 c.before.before.loop-test.true (in_counts c.before.before)
+      tally_step _ _ _ _ l.invariant.1 c.loop-a-test.true (in_counts c.before.before)
           (omega arith),
     )
 
-same_length : tie.Need-same-length invariant-loop decreases-loop
-same_length c = c.before.loop.invariant.0
+same_length : tie.Need-shape_of-counts invariant-loop-a decreases-loop-a
+same_length c = c.loop-a.invariant.0
 
-returns : tie.Need-returns invariant-loop decreases-loop
-returns c = tally_end _ _ _ _ c.before.loop.invariant.1 c.loop-test.false
+returns : tie.Need-returns invariant-loop-a decreases-loop-a
+returns c = tally_end _ _ _ _ c.loop-a.invariant.1 c.loop-a-test.false
 
 pub tally_spec : {M : Type 1} → statement M
 tally_spec =
     tie.close
     (tie.spec
-    invariant-loop
-    decreases-loop
+    invariant-loop-a
+    decreases-loop-a
     loop-holds
     mul-g
     shared-slice-read-g

@@ -17,33 +17,33 @@ number-requires-2 c κs = search rules
 
 head-requires : tie.Need-head-requires
 head-requires c κs =
-    let s = c.before.before.before.before.before in
-    (omega (arith, s.requires.1), omega (arith, c.number2.ensures, count_few _ s.requires.0))
+    let s = c in
+    (omega (arith, s.requires.1), omega (arith, c.number-2.ensures, count_few _ s.requires.0))
 
-sub-by-end : tie.Need-overflow-sub-by-end
+sub-by-end : tie.Need-slice_bounds-by_end-count
 sub-by-end c = search rules
 
-part-by-end-start : tie.Need-slice-bounds-by-end-start
+part-by-end-start : tie.Need-slice_bounds-by_end-start
 part-by-end-start c = search rules
 
-part-by-end-end : tie.Need-slice-bounds-by-end-end
+part-by-end-end : tie.Need-slice_bounds-by_end-end
 part-by-end-end c = search rules
 
-by-end-requires : tie.Need-by-end-requires
+by-end-requires : tie.Need-by_end-requires
 by-end-requires c κs = search rules
 
-same_length : tie.Need-same-length
+same_length : tie.Need-shape_of-numbers
 same_length c = search rules
 
 returns : tie.Need-returns
 returns c =
-    let h = c.before.before.before.before.before.before in
-    let l = h.head.new.0 in
-    let s = h.before.before.before.before.before.before in
-    filled s.args.plant.now (take 4 l) c.before.before.by_end.new.1.0 (mid_of 4 (length l - 4) l)
-    (post_of 4 (length l - 4) l) h.before.before.number.result h.before.number2.result s.requires.0
-    h.before.before.number.ensures h.before.number2.ensures h.head.ensures
-    c.before.before.by_end.ensures
+    let h = c in
+    let l = h.head.new.numbers in
+    let s = h in
+    filled s.args.plant.now (take 4 l) c.by_end.new.out (mid_of 4 (length l - 4) l)
+    (post_of 4 (length l - 4) l) h.number.result h.number-2.result s.requires.0
+    h.number.ensures h.number-2.ensures h.head.ensures
+    c.by_end.ensures
 
 pub fill_spec : {M : Type 1} → statement M
 fill_spec =

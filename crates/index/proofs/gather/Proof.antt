@@ -10,137 +10,137 @@ use Rattle.index.proofs.Gathering.{gather_end}
 use Rattle.index.proofs.gather.Statement.{statement}
 use Rattle.index.proofs.gather.Tie as tie
 
-abbrev invariant-loop : tie.invariant-loop
-invariant-loop plant index by out₀ count room ends k₀ least₀ out k least = Listed plant index by out₀ out count ends k least
+abbrev invariant-loop-k : tie.invariant-loop-k
+invariant-loop-k plant index by out₀ count room ends k₀ least₀ out k least = Listed plant index by out₀ out count ends k least
 
-abbrev decreases-loop : tie.decreases-loop
-decreases-loop plant index by out₀ count room ends k₀ least₀ out k least = count - k
+abbrev decreases-loop-k : tie.decreases-loop-k
+decreases-loop-k plant index by out₀ count room ends k₀ least₀ out k least = count - k
 
-number-requires : tie.Need-number-requires invariant-loop decreases-loop
+number-requires : tie.Need-number-count-requires invariant-loop-k decreases-loop-k
 number-requires c κs = search rules
 
-cast-count : tie.Need-overflow-cast-count invariant-loop decreases-loop
+cast-count : tie.Need-overflow_cast-count invariant-loop-k decreases-loop-k
 cast-count c = omega arith
 
-opens-requires : tie.Need-opens-requires invariant-loop decreases-loop
+opens-requires : tie.Need-opens-requires invariant-loop-k decreases-loop-k
 opens-requires c κs = search rules
 
-returns : tie.Need-returns invariant-loop decreases-loop
+returns : tie.Need-returns-then-not-opens-room invariant-loop-k decreases-loop-k
 returns c =
-    let n = c.before.before in
-    let a = n.before.before.before.before.before.args in
-    gather_not a.plant.now a.index.now a.by.now a.out.now n.number.result n.number.ensures
-    c.before.opens.result c.before.opens.ensures (not-true _ c.if1.true)
+    let n = c in
+    let a = n.args in
+    gather_not a.plant.now a.index.now a.by.now a.out.now n.number-count.result n.number-count.ensures
+    c.opens.result c.opens.ensures (not-true _ c.if-not-opens-room.true-raw)
 
-number-requires-2 : tie.Need-number-requires-2 invariant-loop decreases-loop
+number-requires-2 : tie.Need-number-requires invariant-loop-k decreases-loop-k
 number-requires-2 c κs = search rules
 
-cast_ends : tie.Need-overflow-cast-ends invariant-loop decreases-loop
+cast_ends : tie.Need-overflow_cast-ends invariant-loop-k decreases-loop-k
 cast_ends c = omega arith
 
-mul-ends : tie.Need-overflow-mul-ends invariant-loop decreases-loop
+mul-ends : tie.Need-overflow_mul-ends invariant-loop-k decreases-loop-k
 mul-ends c = omega arith
 
-add-ends : tie.Need-overflow-add-ends invariant-loop decreases-loop
+add-ends : tie.Need-overflow_add-ends invariant-loop-k decreases-loop-k
 add-ends c = omega arith
 
-loop-holds : tie.Need-loop-init invariant-loop decreases-loop
+loop-holds : tie.Need-loop-k-init invariant-loop-k decreases-loop-k
 loop-holds c =
-    let e = c.before in
-    let n = e.before.before in
-    let a = n.before.before.before.before.before.args in
-    gather_start a.plant.now a.index.now a.by.now a.out.now n.number.result n.number.ensures
-    e.before.opens.result e.before.opens.ensures (not-false _ e.if1.false) c.number2.result
-    c.number2.ensures
+    let e = c in
+    let n = e in
+    let a = n.args in
+    gather_start a.plant.now a.index.now a.by.now a.out.now n.number-count.result n.number-count.ensures
+    e.opens.result e.opens.ensures (not-false _ e.if-not-opens-room.false-raw) c.number.result
+    c.number.ensures
 
-mul_at : tie.Need-overflow-mul-at invariant-loop decreases-loop
+mul_at : tie.Need-overflow_mul-at invariant-loop-k decreases-loop-k
 mul_at c = omega arith
 
-add_at : tie.Need-overflow-add-at invariant-loop decreases-loop
+add_at : tie.Need-overflow_add-at invariant-loop-k decreases-loop-k
 add_at c = omega arith
 
-shared-slice-read-pair : tie.Need-shared-slice-read-pair invariant-loop decreases-loop
+shared-slice-read-pair : tie.Need-bounds-index-at invariant-loop-k decreases-loop-k
 shared-slice-read-pair c =
-    omega (arith, c.before.before.loop.invariant.passed.index_long_lem, c.before.loop-test.true)
+    omega (arith, c.loop-k.invariant.passed.index_long_lem, c.loop-k-test.true)
 
-add-pair : tie.Need-overflow-add-pair invariant-loop decreases-loop
+add-pair : tie.Need-overflow_add-at-in-loop-k invariant-loop-k decreases-loop-k
 add-pair c = omega arith
 
-shared-slice-read-pair-2 : tie.Need-shared-slice-read-pair-2 invariant-loop decreases-loop
+shared-slice-read-pair-2 : tie.Need-bounds-index-at-in-loop-k invariant-loop-k decreases-loop-k
 shared-slice-read-pair-2 c =
-    omega (arith, c.before.before.before.loop.invariant.passed.index_long_lem, c.before.before.loop-test.true)
+    omega (arith, c.loop-k.invariant.passed.index_long_lem, c.loop-k-test.true)
 
-pair-requires : tie.Need-pair-requires invariant-loop decreases-loop
+pair-requires : tie.Need-pair-n-requires invariant-loop-k decreases-loop-k
 pair-requires c κs = search rules
 
-least-next-requires : tie.Need-least-next-requires invariant-loop decreases-loop
+least-next-requires : tie.Need-least_next-least-requires invariant-loop-k decreases-loop-k
 least-next-requires c κs =
-    let i = c.before.before.before.before.loop.invariant.passed in
+    let i = c.loop-k.invariant.passed in
     (i.place, i.plant_long)
 
-same_length : tie.Need-same-length invariant-loop decreases-loop
-same_length c = listed_length c.before.before.before.before.before.before.loop.invariant
+same_length : tie.Need-shape_of-out-then-least-eq0 invariant-loop-k decreases-loop-k
+same_length c = listed_length c.loop-k.invariant
 
-returns-2 : tie.Need-returns-2 invariant-loop decreases-loop
+returns-2 : tie.Need-returns-then-least-eq0 invariant-loop-k decreases-loop-k
 returns-2 c =
-    let n = c.before in
-    let t = n.before.before.before.before in
-    gather_fail t.before.loop.invariant t.loop-test.true n.before.pair.ensures n.least-next.ensures
-    c.if2.true
+    let n = c in
+    let t = n in
+    gather_fail t.loop-k.invariant t.loop-k-test.true n.pair-n.ensures n.least_next-least.ensures
+    c.if-least-eq0.true
 
-cast-out : tie.Need-overflow-cast-out invariant-loop decreases-loop
+cast-out : tie.Need-overflow_cast-out invariant-loop-k decreases-loop-k
 cast-out c = omega arith
 
-mul-out : tie.Need-overflow-mul-out invariant-loop decreases-loop
+mul-out : tie.Need-offset_bounds-by-n invariant-loop-k decreases-loop-k
 mul-out c = omega arith
 
-shared-slice-read-out : tie.Need-shared-slice-read-out invariant-loop decreases-loop
+shared-slice-read-out : tie.Need-bounds-by-n invariant-loop-k decreases-loop-k
 shared-slice-read-out c =
-    let e = c.before in
-    let n = e.before in
-    let t = n.before.before.before.before in
-    let i = t.before.loop.invariant in
+    let e = c in
+    let n = e in
+    let t = n in
+    let i = t.loop-k.invariant in
     omega (
       arith,
       i.by_room,
-      number_low i.passed t.loop-test.true n.before.pair.ensures n.least-next.ensures e.if2.false,
+      number_low i.passed t.loop-k-test.true n.pair-n.ensures n.least_next-least.ensures e.if-least-eq0.false,
     )
 
-mul-out-2 : tie.Need-overflow-mul-out-2 invariant-loop decreases-loop
+mul-out-2 : tie.Need-offset_bounds-out-k invariant-loop-k decreases-loop-k
 mul-out-2 c = omega arith
 
-slice-write-out : tie.Need-slice-write-out invariant-loop decreases-loop
+slice-write-out : tie.Need-bounds-out-k invariant-loop-k decreases-loop-k
 slice-write-out c =
-    let t = c.before.before.before.before.before.before in
-    let i = t.before.loop.invariant in
-    omega (arith, listed_length i, i.room, t.loop-test.true)
+    let t = c in
+    let i = t.loop-k.invariant in
+    omega (arith, listed_length i, i.room, t.loop-k-test.true)
 
-add-k : tie.Need-overflow-add-k invariant-loop decreases-loop
+add-k : tie.Need-overflow_add-k invariant-loop-k decreases-loop-k
 add-k c = omega arith
 
-loop-less : tie.Need-loop-smaller invariant-loop decreases-loop
+loop-less : tie.Need-loop-k-smaller invariant-loop-k decreases-loop-k
 loop-less c = omega arith
 
-loop-again : tie.Need-loop-preserved invariant-loop decreases-loop
+loop-again : tie.Need-loop-k-preserved invariant-loop-k decreases-loop-k
 loop-again c =
-    let e = c.before in
-    let n = e.before in
-    let t = n.before.before.before.before in
-    gather_turn t.before.loop.invariant t.loop-test.true n.before.pair.ensures n.least-next.ensures
-    e.if2.false
+    let e = c in
+    let n = e in
+    let t = n in
+    gather_turn t.loop-k.invariant t.loop-k-test.true n.pair-n.ensures n.least_next-least.ensures
+    e.if-least-eq0.false
 
-same-length-2 : tie.Need-same-length-2 invariant-loop decreases-loop
-same-length-2 c = listed_length c.before.loop.invariant
+same-length-2 : tie.Need-shape_of-out invariant-loop-k decreases-loop-k
+same-length-2 c = listed_length c.loop-k.invariant
 
-returns-3 : tie.Need-returns-3 invariant-loop decreases-loop
-returns-3 c = gather_end c.before.loop.invariant c.loop-test.false
+returns-3 : tie.Need-returns invariant-loop-k decreases-loop-k
+returns-3 c = gather_end c.loop-k.invariant c.loop-k-test.false
 
 pub gather_spec : {M : Type 1} → statement M
 gather_spec =
     tie.close
     (tie.spec
-    invariant-loop
-    decreases-loop
+    invariant-loop-k
+    decreases-loop-k
     number-requires
     cast-count
     opens-requires

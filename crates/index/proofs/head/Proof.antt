@@ -8,25 +8,25 @@ use borrow.Author.Rules.{rules}
 use Rattle.index.proofs.head.Statement.{statement}
 use Rattle.index.proofs.head.Tie as tie
 
-slice-write-numbers : tie.Need-slice-write-numbers
+slice-write-numbers : tie.Need-bounds-numbers-0
 slice-write-numbers c = search rules
 
-slice-write-numbers-2 : tie.Need-slice-write-numbers-2
+slice-write-numbers-2 : tie.Need-bounds-numbers-1
 slice-write-numbers-2 c = simp length-set (omega arith)
 
-slice-write-numbers-3 : tie.Need-slice-write-numbers-3
+slice-write-numbers-3 : tie.Need-bounds-numbers-2
 slice-write-numbers-3 c = simp length-set (omega arith)
 
-mul-numbers : tie.Need-overflow-mul-numbers
+mul-numbers : tie.Need-overflow_mul-numbers
 mul-numbers c = search rules
 
-add-numbers : tie.Need-overflow-add-numbers
+add-numbers : tie.Need-overflow_add-numbers
 add-numbers c = search rules
 
-slice-write-numbers-4 : tie.Need-slice-write-numbers-4
+slice-write-numbers-4 : tie.Need-bounds-numbers-3
 slice-write-numbers-4 c = search rules
 
-same_length : tie.Need-same-length
+same_length : tie.Need-shape_of-numbers
 same_length c = search rules
 
 returns : tie.Need-returns

@@ -9,99 +9,99 @@ use Rattle.index.proofs.Passing.{Passed, no_opening, checked, pass_start, pass_n
 use Rattle.index.proofs.is_index.Statement.{statement}
 use Rattle.index.proofs.is_index.Tie as tie
 
-abbrev invariant-loop : tie.invariant-loop
-invariant-loop plant index count ends k₀ least₀ k least = Passed plant index count ends k least
+abbrev invariant-loop-k : tie.invariant-loop-k
+invariant-loop-k plant index count ends k₀ least₀ k least = Passed plant index count ends k least
 
-abbrev decreases-loop : tie.decreases-loop
-decreases-loop plant index count ends k₀ least₀ k least = count - k
+abbrev decreases-loop-k : tie.decreases-loop-k
+decreases-loop-k plant index count ends k₀ least₀ k least = count - k
 
-opens-requires : tie.Need-opens-requires invariant-loop decreases-loop
+opens-requires : tie.Need-opens-requires invariant-loop-k decreases-loop-k
 opens-requires c κs = search rules
 
-returns : tie.Need-returns invariant-loop decreases-loop
-returns c = no_opening _ _ (sym c.before.opens.ensures ∙ not-true _ c.if1.true)
+returns : tie.Need-returns-then-not-opens invariant-loop-k decreases-loop-k
+returns c = no_opening _ _ (sym c.opens.ensures ∙ not-true _ c.if-not-opens.true-raw)
 
-number-requires : tie.Need-number-requires invariant-loop decreases-loop
+number-requires : tie.Need-number-count-requires invariant-loop-k decreases-loop-k
 number-requires c κs = search rules
 
-cast-count : tie.Need-overflow-cast-count invariant-loop decreases-loop
+cast-count : tie.Need-overflow_cast-count invariant-loop-k decreases-loop-k
 cast-count c = omega arith
 
-number-requires-2 : tie.Need-number-requires-2 invariant-loop decreases-loop
+number-requires-2 : tie.Need-number-requires invariant-loop-k decreases-loop-k
 number-requires-2 c κs = search rules
 
-cast_ends : tie.Need-overflow-cast-ends invariant-loop decreases-loop
+cast_ends : tie.Need-overflow_cast-ends invariant-loop-k decreases-loop-k
 cast_ends c = omega arith
 
-mul-ends : tie.Need-overflow-mul-ends invariant-loop decreases-loop
+mul-ends : tie.Need-overflow_mul-ends invariant-loop-k decreases-loop-k
 mul-ends c = omega arith
 
-add-ends : tie.Need-overflow-add-ends invariant-loop decreases-loop
+add-ends : tie.Need-overflow_add-ends invariant-loop-k decreases-loop-k
 add-ends c = omega arith
 
-loop-holds : tie.Need-loop-init invariant-loop decreases-loop
+loop-holds : tie.Need-loop-k-init invariant-loop-k decreases-loop-k
 loop-holds c =
-    let e = c.before.before in
-    pass_start _ _ c.before.number.result c.number2.result c.before.number.ensures c.number2.ensures
-    (sym e.before.opens.ensures ∙ not-false _ e.if1.false)
+    let e = c in
+    pass_start _ _ c.number-count.result c.number.result c.number-count.ensures c.number.ensures
+    (sym e.opens.ensures ∙ not-false _ e.if-not-opens.false-raw)
 
-mul_at : tie.Need-overflow-mul-at invariant-loop decreases-loop
+mul_at : tie.Need-overflow_mul-at invariant-loop-k decreases-loop-k
 mul_at c = omega arith
 
-add_at : tie.Need-overflow-add-at invariant-loop decreases-loop
+add_at : tie.Need-overflow_add-at invariant-loop-k decreases-loop-k
 add_at c = omega arith
 
-shared-slice-read-pair : tie.Need-shared-slice-read-pair invariant-loop decreases-loop
+shared-slice-read-pair : tie.Need-bounds-index-at invariant-loop-k decreases-loop-k
 shared-slice-read-pair c =
-    omega (arith, c.before.before.loop.invariant.index_long_lem, c.before.loop-test.true)
+    omega (arith, c.loop-k.invariant.index_long_lem, c.loop-k-test.true)
 
-add-pair : tie.Need-overflow-add-pair invariant-loop decreases-loop
+add-pair : tie.Need-overflow_add-at-in-loop-k invariant-loop-k decreases-loop-k
 add-pair c = omega arith
 
-shared-slice-read-pair-2 : tie.Need-shared-slice-read-pair-2 invariant-loop decreases-loop
+shared-slice-read-pair-2 : tie.Need-bounds-index-at-in-loop-k invariant-loop-k decreases-loop-k
 shared-slice-read-pair-2 c =
-    omega (arith, c.before.before.before.loop.invariant.index_long_lem, c.before.before.loop-test.true)
+    omega (arith, c.loop-k.invariant.index_long_lem, c.loop-k-test.true)
 
-pair-requires : tie.Need-pair-requires invariant-loop decreases-loop
+pair-requires : tie.Need-pair-n-requires invariant-loop-k decreases-loop-k
 pair-requires c κs = search rules
 
-least-next-requires : tie.Need-least-next-requires invariant-loop decreases-loop
+least-next-requires : tie.Need-least_next-least-requires invariant-loop-k decreases-loop-k
 least-next-requires c κs =
-    let i = c.before.before.before.before.loop.invariant in
+    let i = c.loop-k.invariant in
     (i.place, i.plant_long)
 
-returns-2 : tie.Need-returns-2 invariant-loop decreases-loop
+returns-2 : tie.Need-returns-then-least-eq0 invariant-loop-k decreases-loop-k
 returns-2 c =
-    let n = c.before in
-    let t = n.before.before.before.before in
-    let i = t.before.loop.invariant in
+    let n = c in
+    let t = n in
+    let i = t.loop-k.invariant in
     checked _ _ i.opened false
-    (pass_fail i t.loop-test.true n.before.pair.ensures n.least-next.ensures c.if2.true)
+    (pass_fail i t.loop-k-test.true n.pair-n.ensures n.least_next-least.ensures c.if-least-eq0.true)
 
-add-k : tie.Need-overflow-add-k invariant-loop decreases-loop
+add-k : tie.Need-overflow_add-k invariant-loop-k decreases-loop-k
 add-k c = omega arith
 
-loop-less : tie.Need-loop-smaller invariant-loop decreases-loop
+loop-less : tie.Need-loop-k-smaller invariant-loop-k decreases-loop-k
 loop-less c = omega arith
 
-loop-again : tie.Need-loop-preserved invariant-loop decreases-loop
+loop-again : tie.Need-loop-k-preserved invariant-loop-k decreases-loop-k
 loop-again c =
-    let n = c.before in
-    let t = n.before.before.before.before in
-    pass_next t.before.loop.invariant t.loop-test.true n.before.pair.ensures n.least-next.ensures
-    c.if2.false
+    let n = c in
+    let t = n in
+    pass_next t.loop-k.invariant t.loop-k-test.true n.pair-n.ensures n.least_next-least.ensures
+    c.if-least-eq0.false
 
-returns-3 : tie.Need-returns-3 invariant-loop decreases-loop
+returns-3 : tie.Need-returns invariant-loop-k decreases-loop-k
 returns-3 c =
-    let i = c.before.loop.invariant in
-    checked _ _ i.opened true (pass_end i c.loop-test.false)
+    let i = c.loop-k.invariant in
+    checked _ _ i.opened true (pass_end i c.loop-k-test.false)
 
 pub is_index_spec : {M : Type 1} → statement M
 is_index_spec =
     tie.close
     (tie.spec
-    invariant-loop
-    decreases-loop
+    invariant-loop-k
+    decreases-loop-k
     opens-requires
     returns
     number-requires

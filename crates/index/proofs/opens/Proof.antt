@@ -6,13 +6,13 @@ use borrow.Author.Rules.{rules}
 use Rattle.index.proofs.opens.Statement.{statement}
 use Rattle.index.proofs.opens.Tie as tie
 
-head-ok-requires : tie.Need-head-ok-requires
+head-ok-requires : tie.Need-head_ok-requires
 head-ok-requires c κs = search rules
 
-returns : tie.Need-returns
+returns : tie.Need-returns-then-not-head_ok
 returns c =
-    let a = c.before.before.before.before.args in
-    no_head a.plant.now a.index.now (sym c.before.head_ok.ensures ∙ not-true _ c.if1.true)
+    let a = c.args in
+    no_head a.plant.now a.index.now (sym c.head_ok.ensures ∙ not-true _ c.if-not-head_ok.true-raw)
 
 number-requires : tie.Need-number-requires
 number-requires c κs = search rules
@@ -20,17 +20,17 @@ number-requires c κs = search rules
 number-requires-2 : tie.Need-number-requires-2
 number-requires-2 c κs = search rules
 
-opens-well-requires : tie.Need-opens-well-requires
+opens-well-requires : tie.Need-opens_well-requires
 opens-well-requires c κs = search rules
 
-returns-2 : tie.Need-returns-2
+returns-2 : tie.Need-returns
 returns-2 c =
-    let n = c.before in
-    let h = n.before.before in
-    let a = h.before.before.before.before.args in
-    c.opens-well.ensures
-    ∙ past_head a.plant.now a.index.now (sym h.before.head_ok.ensures ∙ not-false _ h.if1.false)
-    n.before.number.result n.number2.result n.before.number.ensures n.number2.ensures
+    let n = c in
+    let h = n in
+    let a = h.args in
+    c.opens_well.ensures
+    ∙ past_head a.plant.now a.index.now (sym h.head_ok.ensures ∙ not-false _ h.if-not-head_ok.false-raw)
+    n.number.result n.number-2.result n.number.ensures n.number-2.ensures
 
 pub opens_spec : {M : Type 1} → statement M
 opens_spec =

@@ -4,11 +4,11 @@ use Rattle.layout.specs.Layout.{table_room}
 use Rattle.layout.proofs.table_room.Statement.{statement}
 use Rattle.layout.proofs.table_room.Tie as tie
 
-returns : tie.Need-returns
+returns : tie.Need-returns-then-numbers-lt1026
 unfolding table_room
 returns c = omega arith
 
-returns-2 : tie.Need-returns-2
+returns-2 : tie.Need-returns
 unfolding table_room
 returns-2 c = omega arith
 

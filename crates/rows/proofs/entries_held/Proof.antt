@@ -12,77 +12,77 @@ use Rattle.rows.proofs.Gathered.{gathered, EntriesLeft, entries_start, entries_m
 use Rattle.rows.proofs.entries_held.Statement.{statement}
 use Rattle.rows.proofs.entries_held.Tie as tie
 
-abbrev invariant-loop : tie.invariant-loop
-invariant-loop book stages state goals mask at₀ waits₀ moves₀ set₀ goal₀ at waits moves set goal =
+abbrev invariant-loop-goal : tie.invariant-loop-goal
+invariant-loop-goal book stages state goals mask at₀ waits₀ moves₀ set₀ goal₀ at waits moves set goal =
     EntriesLeft book (book_moves book) mask goals (entry_in stages book state 0) (entries_held stages book state) at goal
     waits moves set
 
-abbrev decreases-loop : tie.decreases-loop
-decreases-loop book stages state goals mask at₀ waits₀ moves₀ set₀ goal₀ at waits moves set goal = goals - goal
+abbrev decreases-loop-goal : tie.decreases-loop-goal
+decreases-loop-goal book stages state goals mask at₀ waits₀ moves₀ set₀ goal₀ at waits moves set goal = goals - goal
 
-number-requires : tie.Need-number-requires invariant-loop decreases-loop
+number-requires : tie.Need-number-goals-requires invariant-loop-goal decreases-loop-goal
 number-requires c κs = search rules
 
-mask-requires : tie.Need-mask-requires invariant-loop decreases-loop
+mask-requires : tie.Need-mask-mask-requires invariant-loop-goal decreases-loop-goal
 mask-requires c κs = search rules
 
-entry-in-requires : tie.Need-entry-in-requires invariant-loop decreases-loop
+entry-in-requires : tie.Need-entry_in-at-requires invariant-loop-goal decreases-loop-goal
 entry-in-requires c κs = search rules
 
-loop-holds : tie.Need-loop-init invariant-loop decreases-loop
+loop-holds : tie.Need-loop-goal-init invariant-loop-goal decreases-loop-goal
 unfolding book_goals book_moves
 loop-holds c =
-    let start = c.before.before.before.before in
+    let start = c in
     let a = start.args in
     let b = a.book.now in
     let head = head_given b start.requires.0 in
-    let n = c.before.before.number.ensures in
-    let m = c.before.mask.ensures in
+    let n = c.number-goals.ensures in
+    let m = c.mask-mask.ensures in
     entries_start
     (omega (arith, n, entries_within b a.state a.stages start.requires.1.0 head start.requires.1.1))
-    (omega arith) (rw m head.mask_ok_lem) c.entry_in.ensures.0
+    (omega arith) (rw m head.mask_ok_lem) c.entry_in-at.ensures.0
     (held_row a.stages b a.state _ _ _ n refl m)
 
-add-word-in : tie.Need-overflow-add-word-in invariant-loop decreases-loop
+add-word-in : tie.Need-overflow_add-at invariant-loop-goal decreases-loop-goal
 add-word-in c = omega arith
 
-word-in-requires : tie.Need-word-in-requires invariant-loop decreases-loop
+word-in-requires : tie.Need-word_in-action-requires invariant-loop-goal decreases-loop-goal
 word-in-requires c κs = omega arith
 
-word-in-requires-2 : tie.Need-word-in-requires-2 invariant-loop decreases-loop
+word-in-requires-2 : tie.Need-word_in-waits-requires invariant-loop-goal decreases-loop-goal
 word-in-requires-2 c κs = omega arith
 
-cast-set : tie.Need-overflow-cast-set invariant-loop decreases-loop
+cast-set : tie.Need-overflow_cast-set invariant-loop-goal decreases-loop-goal
 cast-set c = omega arith
 
-shl-set : tie.Need-overflow-shl-set invariant-loop decreases-loop
+shl-set : tie.Need-overflow_shl-set invariant-loop-goal decreases-loop-goal
 shl-set c = omega arith
 
-add_at : tie.Need-overflow-add-at invariant-loop decreases-loop
+add_at : tie.Need-overflow_add-at-in-loop-goal invariant-loop-goal decreases-loop-goal
 add_at c = omega arith
 
-add-goal : tie.Need-overflow-add-goal invariant-loop decreases-loop
+add-goal : tie.Need-overflow_add-goal invariant-loop-goal decreases-loop-goal
 add-goal c = omega arith
 
-loop-less : tie.Need-loop-smaller invariant-loop decreases-loop
+loop-less : tie.Need-loop-goal-smaller invariant-loop-goal decreases-loop-goal
 loop-less c = omega arith
 
-loop-again : tie.Need-loop-preserved invariant-loop decreases-loop
+loop-again : tie.Need-loop-goal-preserved invariant-loop-goal decreases-loop-goal
 loop-again c =
-    let turn = c.before.before in
-    entries_more turn.before.loop.invariant turn.loop-test.true c.word-in2.ensures c.before.word_in.ensures
+    let turn = c in
+    entries_more turn.loop-goal.invariant turn.loop-goal-test.true c.word_in-waits.ensures c.word_in-action.ensures
     (power _ (omega arith))
 
-returns : tie.Need-returns invariant-loop decreases-loop
+returns : tie.Need-returns invariant-loop-goal decreases-loop-goal
 unfolding gathered
-returns c = entries_end c.before.loop.invariant c.loop-test.false
+returns c = entries_end c.loop-goal.invariant c.loop-goal-test.false
 
 pub entries_held_spec : {M : Type 1} → statement M
 entries_held_spec =
     tie.close
     (tie.spec
-    invariant-loop
-    decreases-loop
+    invariant-loop-goal
+    decreases-loop-goal
     number-requires
     mask-requires
     entry-in-requires

@@ -11,48 +11,48 @@ use Rattle.rows.proofs.entry_in.Tie as tie
 number-requires : tie.Need-number-requires
 number-requires c κs = search rules
 
-cast-entries : tie.Need-overflow-cast-entries
+cast-entries : tie.Need-overflow_cast-entries
 cast-entries c = search rules
 
 -- a state's number times the goals
-small : (c : tie.After-number) → c.before.before.args.state * c.number.result < 2 ^ 48
-small c = product_below 32 16 c.before.before.ranges.state.fits (omega arith)
+small : (c : tie.After-number) → c.args.state * c.number.result < 2 ^ 48
+small c = product_below 32 16 c.ranges.state.fits (omega arith)
 
-mul-entries : tie.Need-overflow-mul-entries
+mul-entries : tie.Need-overflow_mul-entries
 mul-entries c = omega (arith, small c)
 
-add-entries : tie.Need-overflow-add-entries
+add-entries : tie.Need-overflow_add-entries
 add-entries c = omega (arith, small c)
 
-mul-entries-2 : tie.Need-overflow-mul-entries-2
+mul-entries-2 : tie.Need-overflow_mul-entries-2
 mul-entries-2 c = omega (arith, small c)
 
-add-result : tie.Need-overflow-add-result
+add-result : tie.Need-overflow_add-result
 add-result c = search rules
 
-mul-result : tie.Need-overflow-mul-result
+mul-result : tie.Need-overflow_mul-result
 mul-result c = search rules
 
-add-result-2 : tie.Need-overflow-add-result-2
+add-result-2 : tie.Need-overflow_add-result-then-stages
 add-result-2 c = omega (arith, small c.before)
 
-add-result-3 : tie.Need-overflow-add-result-3
+add-result-3 : tie.Need-overflow_add-result-then-stages-2
 add-result-3 c = omega (arith, small c.before)
 
-returns : tie.Need-returns
+returns : tie.Need-returns-then-stages
 returns c =
-    let a = c.before.before.before.args in (
-      entry_staged a.book.now a.state a.goal _ _ c.if1.true c.before.number.ensures,
+    let a = c.args in (
+      entry_staged a.book.now a.state a.goal _ _ c.if-stages.true c.number.ensures,
       omega (arith, small c.before),
     )
 
-add-result-4 : tie.Need-overflow-add-result-4
+add-result-4 : tie.Need-overflow_add-result-2
 add-result-4 c = omega (arith, small c.before)
 
-returns-2 : tie.Need-returns-2
+returns-2 : tie.Need-returns
 returns-2 c =
-    let a = c.before.before.before.args in (
-      entry_plain a.book.now a.state a.goal _ _ c.if1.false c.before.number.ensures,
+    let a = c.args in (
+      entry_plain a.book.now a.state a.goal _ _ c.if-stages.false c.number.ensures,
       omega (arith, small c.before),
     )
 

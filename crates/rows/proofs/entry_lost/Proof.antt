@@ -7,28 +7,28 @@ use Rattle.rows.proofs.Rows.{lost_cut}
 use Rattle.rows.proofs.entry_lost.Statement.{statement}
 use Rattle.rows.proofs.entry_lost.Tie as tie
 
-add-if1 : tie.Need-overflow-add-if1
+add-if1 : tie.Need-overflow_add-at
 add-if1 c = search rules
 
-returns : tie.Need-returns
+returns : tie.Need-returns-then-book-at
 returns c =
-    let a = c.before.before.args in
-    lost_cut a.book.now a.at (λ k. (c.before.shared-slice-known.given k).fits) c.if1.true
+    let a = c.args in
+    lost_cut a.book.now a.at (λ k. (c.shared_slice_known-1.given k).fits) c.if-book-at.true
 
-word-at-requires : tie.Need-word-at-requires
+word-at-requires : tie.Need-word_at-requires
 word-at-requires c κs = search rules
 
-add-word-at : tie.Need-overflow-add-word-at
+add-word-at : tie.Need-overflow_add-at-2
 add-word-at c = search rules
 
-word-at-requires-2 : tie.Need-word-at-requires-2
+word-at-requires-2 : tie.Need-word_at-requires-2
 word-at-requires-2 c κs = search rules
 
-returns-2 : tie.Need-returns-2
+returns-2 : tie.Need-returns
 unfolding lost_at
 returns-2 c =
-    let a = c.before.before.before.before.args in
-    simp (c.before.word_at.ensures, c.word-at2.ensures, word_further a.book.now a.at 1)
+    let a = c.args in
+    simp (c.word_at.ensures, c.word_at-2.ensures, word_further a.book.now a.at 1)
 
 pub entry_lost_spec : {M : Type 1} → statement M
 entry_lost_spec =

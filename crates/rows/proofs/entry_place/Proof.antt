@@ -8,13 +8,13 @@ use Rattle.rows.proofs.entry_place.Tie as tie
 staged-requires : tie.Need-staged-requires
 staged-requires c κs = search rules
 
-entry-in-requires : tie.Need-entry-in-requires
+entry-in-requires : tie.Need-entry_in-requires
 entry-in-requires c κs = search rules
 
 returns : tie.Need-returns
 returns c =
-    let a = c.before.before.before.args in (
-      c.entry_in.ensures.0 ∙ entry_known a.book.now a.state a.goal _ c.before.staged.ensures,
+    let a = c.args in (
+      c.entry_in.ensures.0 ∙ entry_known a.book.now a.state a.goal _ c.staged.ensures,
       c.entry_in.ensures.1,
     )
 

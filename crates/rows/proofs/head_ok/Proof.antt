@@ -9,53 +9,53 @@ use Rattle.format.proofs.Words.{product_below}
 use Rattle.rows.proofs.head_ok.Statement.{statement}
 use Rattle.rows.proofs.head_ok.Tie as tie
 
-returns : tie.Need-returns
+returns : tie.Need-returns-then-book-lt16
 unfolding book_head_ok
-returns c = simp (lt-leb 16 _ c.if1.true)
+returns c = simp (lt-leb 16 _ c.if-book-lt16.true)
 
-number-requires : tie.Need-number-requires
+number-requires : tie.Need-number-s-requires
 number-requires c κs = search rules
 
-cast-s : tie.Need-overflow-cast-s
+cast-s : tie.Need-overflow_cast-s
 cast-s c = search rules
 
-number-requires-2 : tie.Need-number-requires-2
+number-requires-2 : tie.Need-number-u-requires
 number-requires-2 c κs = search rules
 
-cast-u : tie.Need-overflow-cast-u
+cast-u : tie.Need-overflow_cast-u
 cast-u c = search rules
 
-number-requires-3 : tie.Need-number-requires-3
+number-requires-3 : tie.Need-number-n-requires
 number-requires-3 c κs = search rules
 
-cast-n : tie.Need-overflow-cast-n
+cast-n : tie.Need-overflow_cast-n
 cast-n c = search rules
 
-number-requires-4 : tie.Need-number-requires-4
+number-requires-4 : tie.Need-number-rows-requires
 number-requires-4 c κs = search rules
 
-number-requires-5 : tie.Need-number-requires-5
+number-requires-5 : tie.Need-number-total-requires
 number-requires-5 c κs = search rules
 
-cast-total : tie.Need-overflow-cast-total
+cast-total : tie.Need-overflow_cast-total
 cast-total c = search rules
 
-mul-result : tie.Need-overflow-mul-result
+mul-result : tie.Need-overflow_mul-result
 mul-result c =
-    let s : c.before.before.before.before.number.result < 2 ^ 16 = omega arith in
-    let n : c.before.before.number3.result < 2 ^ 16 = omega arith in
+    let s : c.number-s.result < 2 ^ 16 = omega arith in
+    let n : c.number-n.result < 2 ^ 16 = omega arith in
     omega (arith, product_below 16 16 s n)
 
-mul-result-2 : tie.Need-overflow-mul-result-2
+mul-result-2 : tie.Need-overflow_mul-result-2
 mul-result-2 c =
-    let s : c.before.before.before.before.number.result < 2 ^ 16 = omega arith in
-    let n : c.before.before.number3.result < 2 ^ 16 = omega arith in
+    let s : c.number-s.result < 2 ^ 16 = omega arith in
+    let n : c.number-n.result < 2 ^ 16 = omega arith in
     omega (arith, product_below 16 16 s n)
 
-add-result : tie.Need-overflow-add-result
+add-result : tie.Need-overflow_add-result
 add-result c =
-    let s : c.before.before.before.before.number.result < 2 ^ 16 = omega arith in
-    let n : c.before.before.number3.result < 2 ^ 16 = omega arith in
+    let s : c.number-s.result < 2 ^ 16 = omega arith in
+    let n : c.number-n.result < 2 ^ 16 = omega arith in
     omega (arith, product_below 16 16 s n)
 
 staged-requires : tie.Need-staged-requires
@@ -64,22 +64,22 @@ staged-requires c κs = search rules
 mask-requires : tie.Need-mask-requires
 mask-requires c κs = search rules
 
-mask-ok-requires : tie.Need-mask-ok-requires
+mask-ok-requires : tie.Need-mask_ok-requires
 mask-ok-requires c κs = search rules
 
-returns-2 : tie.Need-returns-2
+returns-2 : tie.Need-returns
 unfolding book_head_ok book_states book_moves book_goals book_total book_long
 returns-2 c =
     simp (
-      le-leb 16 _ c.before.before.before.before.before.before.before.before.if1.false,
-      c.mask_ok_lem.ensures,
-      c.before.mask.ensures,
-      c.before.before.staged.ensures,
-      c.before.before.before.before.before.before.before.number.ensures,
-      c.before.before.before.before.before.before.number2.ensures,
-      c.before.before.before.before.before.number3.ensures,
-      c.before.before.before.before.number4.ensures,
-      c.before.before.before.number5.ensures,
+      le-leb 16 _ c.if-book-lt16.false,
+      c.mask_ok.ensures,
+      c.mask.ensures,
+      c.staged.ensures,
+      c.number-s.ensures,
+      c.number-u.ensures,
+      c.number-n.ensures,
+      c.number-rows.ensures,
+      c.number-total.ensures,
     )
 
 pub head_ok_spec : {M : Type 1} → statement M

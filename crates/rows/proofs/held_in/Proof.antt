@@ -7,35 +7,35 @@ use Rattle.rows.proofs.Rows.{held_not, held_plain, held_wholly}
 use Rattle.rows.proofs.held_in.Statement.{statement}
 use Rattle.rows.proofs.held_in.Tie as tie
 
-entries-held-requires : tie.Need-entries-held-requires
+entries-held-requires : tie.Need-entries_held-requires
 entries-held-requires c κs = search rules
 
-returns : tie.Need-returns
+returns : tie.Need-returns-then-not-entries_held
 returns c =
-    let a = c.before.before.before.args in
-    held_not a.book.now a.state a.stages (sym c.before.entries-held.ensures ∙ not-true _ c.if1.true)
+    let a = c.args in
+    held_not a.book.now a.state a.stages (sym c.entries_held.ensures ∙ not-true _ c.if-not-entries_held.true-raw)
 
-returns-2 : tie.Need-returns-2
+returns-2 : tie.Need-returns-then-not-stages
 returns-2 c =
-    let told = c.before in
-    let a = told.before.before.before.args in
-    held_plain a.book.now a.state a.stages (not-true _ c.if2.true)
-    (sym told.before.entries-held.ensures ∙ not-false _ told.if1.false)
+    let told = c in
+    let a = told.args in
+    held_plain a.book.now a.state a.stages (not-true _ c.if-not-stages.true-raw)
+    (sym told.entries_held.ensures ∙ not-false _ told.if-not-entries_held.false-raw)
 
-stage-at-requires : tie.Need-stage-at-requires
+stage-at-requires : tie.Need-stage_at-stage-requires
 stage-at-requires c κs = search rules
 
 number-requires : tie.Need-number-requires
 number-requires c κs = search rules
 
-returns-3 : tie.Need-returns-3
+returns-3 : tie.Need-returns
 unfolding book_states
 returns-3 c =
-    let staged = c.before.before in
-    let told = staged.before in
-    let a = told.before.before.before.args in
-    held_wholly a.book.now a.state a.stages _ _ (not-false _ staged.if2.false)
-    (sym told.before.entries-held.ensures ∙ not-false _ told.if1.false) c.before.Stage-at.ensures
+    let staged = c in
+    let told = staged in
+    let a = told.args in
+    held_wholly a.book.now a.state a.stages _ _ (not-false _ staged.if-not-stages.false-raw)
+    (sym told.entries_held.ensures ∙ not-false _ told.if-not-entries_held.false-raw) c.stage_at-stage.ensures
     c.number.ensures
 
 pub held_in_spec : {M : Type 1} → statement M

@@ -7,13 +7,13 @@ use Rattle.rows.proofs.is_lost.Tie as tie
 staged-requires : tie.Need-staged-requires
 staged-requires c κs = search rules
 
-lost-in-requires : tie.Need-lost-in-requires
+lost-in-requires : tie.Need-lost_in-requires
 lost-in-requires c κs = search rules
 
 returns : tie.Need-returns
 returns c =
-    let a = c.before.before.before.args in
-    lost_known a.book.now a.state _ _ c.before.staged.ensures c.lost-in.ensures
+    let a = c.args in
+    lost_known a.book.now a.state _ _ c.staged.ensures c.lost_in.ensures
 
 pub is_lost_spec : {M : Type 1} → statement M
 is_lost_spec = tie.close (tie.spec staged-requires lost-in-requires returns)

@@ -9,24 +9,24 @@ use Rattle.rows.proofs.mask.Tie as tie
 number-requires : tie.Need-number-requires
 number-requires c κs = search rules
 
-cast-result : tie.Need-overflow-cast-result
+cast-result : tie.Need-overflow_cast-result
 cast-result c = search rules
 
 number-requires-2 : tie.Need-number-requires-2
 number-requires-2 c κs = search rules
 
-cast-result-2 : tie.Need-overflow-cast-result-2
+cast-result-2 : tie.Need-overflow_cast-result-2
 cast-result-2 c = search rules
 
-mul-result : tie.Need-overflow-mul-result
+mul-result : tie.Need-overflow_mul-result
 mul-result c = search rules
 
-add-result : tie.Need-overflow-add-result
+add-result : tie.Need-overflow_add-result
 add-result c = search rules
 
 returns : tie.Need-returns
 unfolding book_mask
-returns c = ap₂ (λ (a b : ℕ). a + 65536 * b) c.before.number.ensures c.number2.ensures
+returns c = ap₂ (λ (a b : ℕ). a + 65536 * b) c.number.ensures c.number-2.ensures
 
 pub mask_spec : {M : Type 1} → statement M
 mask_spec =

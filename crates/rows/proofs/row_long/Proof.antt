@@ -7,28 +7,28 @@ use Rattle.rows.proofs.row_long.Tie as tie
 number-requires : tie.Need-number-requires
 number-requires c κs = search rules
 
-cast-entries : tie.Need-overflow-cast-entries
+cast-entries : tie.Need-overflow_cast-entries
 cast-entries c = search rules
 
-mul-entries : tie.Need-overflow-mul-entries
+mul-entries : tie.Need-overflow_mul-entries
 mul-entries c = search rules
 
 staged-requires : tie.Need-staged-requires
 staged-requires c κs = search rules
 
-add-result : tie.Need-overflow-add-result
+add-result : tie.Need-overflow_add-result
 add-result c = search rules
 
-returns : tie.Need-returns
+returns : tie.Need-returns-then-staged
 returns c =
-    let told = c.before.before in
-    long_staged told.before.before.args.book.now 0 _ _ c.before.staged.ensures c.if1.true
+    let told = c in
+    long_staged told.args.book.now 0 _ _ c.staged.ensures c.if-staged.true
     told.number.ensures
 
-returns-2 : tie.Need-returns-2
+returns-2 : tie.Need-returns
 returns-2 c =
-    let told = c.before.before in
-    long_plain told.before.before.args.book.now 0 _ _ c.before.staged.ensures c.if1.false
+    let told = c in
+    long_plain told.args.book.now 0 _ _ c.staged.ensures c.if-staged.false
     told.number.ensures
 
 pub row_long_spec : {M : Type 1} → statement M

@@ -11,43 +11,43 @@ use Rattle.rows.proofs.row_place.Tie as tie
 number-requires : tie.Need-number-requires
 number-requires c κs = search rules
 
-cast-entries : tie.Need-overflow-cast-entries
+cast-entries : tie.Need-overflow_cast-entries
 cast-entries c = search rules
 
 -- a state's number times the goals
-small : (c : tie.After-number) → c.before.before.args.state * c.number.result < 2 ^ 48
-small c = product_below 32 16 c.before.before.ranges.state.fits (omega arith)
+small : (c : tie.After-number) → c.args.state * c.number.result < 2 ^ 48
+small c = product_below 32 16 c.ranges.state.fits (omega arith)
 
-mul-entries : tie.Need-overflow-mul-entries
+mul-entries : tie.Need-overflow_mul-entries
 mul-entries c = omega (arith, small c)
 
-mul-entries-2 : tie.Need-overflow-mul-entries-2
+mul-entries-2 : tie.Need-overflow_mul-entries-2
 mul-entries-2 c = omega (arith, small c)
 
 staged-requires : tie.Need-staged-requires
 staged-requires c κs = search rules
 
-mul-result : tie.Need-overflow-mul-result
+mul-result : tie.Need-overflow_mul-result
 mul-result c = search rules
 
-add-result : tie.Need-overflow-add-result
+add-result : tie.Need-overflow_add-result
 add-result c = omega (arith, small c.before.before)
 
-add-result-2 : tie.Need-overflow-add-result-2
+add-result-2 : tie.Need-overflow_add-result-then-staged
 add-result-2 c = omega (arith, small c.before.before)
 
-returns : tie.Need-returns
+returns : tie.Need-returns-then-staged
 returns c =
-    let a = c.before.before.before.before.args in
-    row_staged a.book.now a.state _ _ c.before.staged.ensures c.if1.true c.before.before.number.ensures
+    let a = c.args in
+    row_staged a.book.now a.state _ _ c.staged.ensures c.if-staged.true c.number.ensures
 
-add-result-3 : tie.Need-overflow-add-result-3
+add-result-3 : tie.Need-overflow_add-result-2
 add-result-3 c = omega (arith, small c.before.before)
 
-returns-2 : tie.Need-returns-2
+returns-2 : tie.Need-returns
 returns-2 c =
-    let a = c.before.before.before.before.args in
-    row_plain a.book.now a.state _ _ c.before.staged.ensures c.if1.false c.before.before.number.ensures
+    let a = c.args in
+    row_plain a.book.now a.state _ _ c.staged.ensures c.if-staged.false c.number.ensures
 
 pub row_place_spec : {M : Type 1} → statement M
 row_place_spec =

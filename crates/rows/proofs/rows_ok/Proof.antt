@@ -14,98 +14,98 @@ use Rattle.rows.proofs.Rows.{RowsLeft, lost_known, held_known, rows_start, rows_
 use Rattle.rows.proofs.rows_ok.Statement.{statement}
 use Rattle.rows.proofs.rows_ok.Tie as tie
 
-abbrev invariant-loop : tie.invariant-loop
-invariant-loop book states stages kept₀ state₀ kept state = RowsLeft book states kept state
+abbrev invariant-loop-state : tie.invariant-loop-state
+invariant-loop-state book states stages kept₀ state₀ kept state = RowsLeft book states kept state
 
-abbrev decreases-loop : tie.decreases-loop
-decreases-loop book states stages kept₀ state₀ kept state = states - state
+abbrev decreases-loop-state : tie.decreases-loop-state
+decreases-loop-state book states stages kept₀ state₀ kept state = states - state
 
-number-requires : tie.Need-number-requires invariant-loop decreases-loop
+number-requires : tie.Need-number-states-requires invariant-loop-state decreases-loop-state
 number-requires c κs = search rules
 
-cast-states : tie.Need-overflow-cast-states invariant-loop decreases-loop
+cast-states : tie.Need-overflow_cast-states invariant-loop-state decreases-loop-state
 cast-states c = omega arith
 
-staged-requires : tie.Need-staged-requires invariant-loop decreases-loop
+staged-requires : tie.Need-staged-stages-requires invariant-loop-state decreases-loop-state
 staged-requires c κs = search rules
 
-loop-holds : tie.Need-loop-init invariant-loop decreases-loop
+loop-holds : tie.Need-loop-state-init invariant-loop-state decreases-loop-state
 unfolding book_states
-loop-holds c = rows_start c.before.before.before.args.book.now _ c.before.number.ensures
+loop-holds c = rows_start c.args.book.now _ c.number-states.ensures
 
-lost-in-requires : tie.Need-lost-in-requires invariant-loop decreases-loop
+lost-in-requires : tie.Need-lost_in-requires invariant-loop-state decreases-loop-state
 lost-in-requires c κs = search rules
 
-held-in-requires : tie.Need-held-in-requires invariant-loop decreases-loop
+held-in-requires : tie.Need-held_in-requires invariant-loop-state decreases-loop-state
 held-in-requires c κs = search rules
 
 -- whether the state at which the loop is is lost
-lost_here : (c : tie.After-lost-in invariant-loop decreases-loop)
-    → let entry = c.before.before.before.before.before.before in
-    c.lost-in.result ≡ is_lost entry.args.book.now c.before.before.loop.state
+lost_here : (c : tie.After-lost_in invariant-loop-state decreases-loop-state)
+    → let entry = c in
+    c.lost_in.result ≡ is_lost entry.args.book.now c.loop-state.state
 lost_here c =
-    let entry = c.before.before.before.before.before.before in
-    lost_known entry.args.book.now c.before.before.loop.state _ _
-    c.before.before.before.staged.ensures c.lost-in.ensures
+    let entry = c in
+    lost_known entry.args.book.now c.loop-state.state _ _
+    c.staged-stages.ensures c.lost_in.ensures
 
 -- and whether it is held
-held_here : (c : tie.After-lost-in invariant-loop decreases-loop)
-    → let entry = c.before.before.before.before.before.before in
-    (r : Bool) → r ≡ held_in c.before.before.before.staged.result entry.args.book.now c.before.before.loop.state
-    → r ≡ is_held entry.args.book.now c.before.before.loop.state
+held_here : (c : tie.After-lost_in invariant-loop-state decreases-loop-state)
+    → let entry = c in
+    (r : Bool) → r ≡ held_in c.staged-stages.result entry.args.book.now c.loop-state.state
+    → r ≡ is_held entry.args.book.now c.loop-state.state
 held_here c r h =
-    let entry = c.before.before.before.before.before.before in
-    held_known entry.args.book.now c.before.before.loop.state _ r
-    c.before.before.before.staged.ensures h
+    let entry = c in
+    held_known entry.args.book.now c.loop-state.state _ r
+    c.staged-stages.ensures h
 
-returns : tie.Need-returns invariant-loop decreases-loop
+returns : tie.Need-returns-then-not-held_in invariant-loop-state decreases-loop-state
 returns c =
-    let turn = c.before.before.before.before in
+    let turn = c in
     sym
-    (rows_fail turn.before.loop.invariant turn.loop-test.true
-    (sym (lost_here c.before.before.before) ∙ not-true _ c.before.before.if1.true)
-    (sym (held_here c.before.before.before _ c.before.held_in.ensures) ∙ not-true _ c.if2.true))
+    (rows_fail turn.loop-state.invariant turn.loop-state-test.true
+    (sym (lost_here c.before.before.before) ∙ not-true _ c.if-not-lost_in.true-raw)
+    (sym (held_here c.before.before.before _ c.held_in.ensures) ∙ not-true _ c.if-not-held_in.true-raw))
 
-add_kept : tie.Need-overflow-add-kept invariant-loop decreases-loop
+add_kept : tie.Need-overflow_add-kept invariant-loop-state decreases-loop-state
 add_kept c = omega arith
 
-add-state : tie.Need-overflow-add-state invariant-loop decreases-loop
+add-state : tie.Need-overflow_add-state invariant-loop-state decreases-loop-state
 add-state c = omega arith
 
-loop-less : tie.Need-loop-smaller invariant-loop decreases-loop
+loop-less : tie.Need-loop-state-smaller invariant-loop-state decreases-loop-state
 loop-less c = omega arith
 
-loop-again : tie.Need-loop-preserved invariant-loop decreases-loop
+loop-again : tie.Need-loop-state-preserved invariant-loop-state decreases-loop-state
 loop-again c =
-    let turn = c.before.before in
+    let turn = c in
     let lost = lost_here c.before in
     ⊎_elim
-    (λ w. rw w.3
-    (rows_held turn.before.loop.invariant turn.loop-test.true
-    (sym lost ∙ not-true _ w.0.taken)
-    (sym (held_here c.before _ w.1.ensures) ∙ not-false _ w.2.left)))
-    (λ w. rw w.1
-    (rows_lost turn.before.loop.invariant turn.loop-test.true (sym lost ∙ not-false _ w.0.left)))
-    c.if1.branch
+    (λ w. rw w.kept-is
+    (rows_held turn.loop-state.invariant turn.loop-state-test.true
+    (sym lost ∙ w.if-not-lost_in.true)
+    (sym (held_here c.before _ w.held_in.ensures) ∙ w.if-not-held_in.false)))
+    (λ w. rw w.kept-is
+    (rows_lost turn.loop-state.invariant turn.loop-state-test.true (sym lost ∙ w.if-not-lost_in.false)))
+    c.if-not-lost_in.branch-raw
 
-number-requires-2 : tie.Need-number-requires-2 invariant-loop decreases-loop
+number-requires-2 : tie.Need-number-requires invariant-loop-state decreases-loop-state
 number-requires-2 c κs = search rules
 
-cast-result : tie.Need-overflow-cast-result invariant-loop decreases-loop
+cast-result : tie.Need-overflow_cast-result invariant-loop-state decreases-loop-state
 cast-result c = omega arith
 
-returns-2 : tie.Need-returns-2 invariant-loop decreases-loop
+returns-2 : tie.Need-returns invariant-loop-state decreases-loop-state
 unfolding book_count
 returns-2 c =
-    ap (λ (k : ℕ). eqb k c.before.before.loop.auto) c.number2.ensures
-    ∙ sym (rows_end c.before.before.loop.invariant c.before.loop-test.false)
+    ap (λ (k : ℕ). eqb k c.loop-state.kept) c.number.ensures
+    ∙ sym (rows_end c.loop-state.invariant c.loop-state-test.false)
 
 pub rows_ok_spec : {M : Type 1} → statement M
 rows_ok_spec =
     tie.close
     (tie.spec
-    invariant-loop
-    decreases-loop
+    invariant-loop-state
+    decreases-loop-state
     number-requires
     cast-states
     staged-requires

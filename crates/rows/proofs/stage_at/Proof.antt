@@ -7,23 +7,23 @@ use Rattle.rows.proofs.stage_at.Tie as tie
 staged-requires : tie.Need-staged-requires
 staged-requires c κs = search rules
 
-row-place-requires : tie.Need-row-place-requires
+row-place-requires : tie.Need-row_place-requires
 row-place-requires c κs = search rules
 
-word-at-requires : tie.Need-word-at-requires
+word-at-requires : tie.Need-word_at-requires
 word-at-requires c κs = search rules
 
-returns : tie.Need-returns
+returns : tie.Need-returns-then-staged
 returns c =
-    let told = c.before.before in
-    let a = told.before.before.before.args in
-    stage_read a.book.now a.state _ _ _ told.before.staged.ensures told.if1.true c.before.row_place_lem.ensures
+    let told = c in
+    let a = told.args in
+    stage_read a.book.now a.state _ _ _ told.staged.ensures told.if-staged.true c.row_place.ensures
     c.word_at.ensures
 
-returns-2 : tie.Need-returns-2
+returns-2 : tie.Need-returns
 returns-2 c =
-    let a = c.before.before.before.args in
-    stage_none a.book.now a.state _ c.before.staged.ensures c.if1.false
+    let a = c.args in
+    stage_none a.book.now a.state _ c.staged.ensures c.if-staged.false
 
 pub stage_at_spec : {M : Type 1} → statement M
 stage_at_spec =

@@ -8,16 +8,16 @@ use Rattle.rows.proofs.Rows.{wait_place}
 use Rattle.rows.proofs.wait_at.Statement.{statement}
 use Rattle.rows.proofs.wait_at.Tie as tie
 
-entry-place-requires : tie.Need-entry-place-requires
+entry-place-requires : tie.Need-entry_place-requires
 entry-place-requires c κs = search rules
 
-word-at-requires : tie.Need-word-at-requires
+word-at-requires : tie.Need-word_at-requires
 word-at-requires c κs = search rules
 
 returns : tie.Need-returns
 returns c =
-    let a = c.before.before.before.args in
-    c.word_at.ensures ∙ ap (λ (k : ℕ). word 0 (drop k a.book.now)) c.before.entry_place.ensures.0
+    let a = c.args in
+    c.word_at.ensures ∙ ap (λ (k : ℕ). word 0 (drop k a.book.now)) c.entry_place.ensures.0
     ∙ sym (wait_place a.book.now a.state a.goal)
 
 pub wait_at_spec : {M : Type 1} → statement M

@@ -17,54 +17,54 @@ use Rattle.game.proofs.play.begin.Statement.{statement}
 use Rattle.game.proofs.play.begin.Tie as tie
 
 -- the calls before the last, and the function's entry
-abbrev rested : tie.After-strike-in-arg3 → tie.After-rest
+abbrev rested : tie.After-strike_in-arg-3-1 → tie.After-rest-count
 rested c = c.before.before.before.before.before
 
-abbrev opened : tie.After-rest → tie.After-open
+abbrev opened : tie.After-rest-count → tie.After-open
 opened c = c.before.before.before.before
 
 abbrev tallied : tie.After-open → tie.After-tally
-tallied c = c.before.before.before.before.before
+tallied c = c.before.before.before.before
 
 abbrev entry : tie.After-tally → tie.Start
-entry c = c.before.before.before.before.before.before.before.before
+entry c = c.before.before.before.before.before.before.before
 
 -- the nodes to strike out are at the front
-gone_front : (c : tie.After-rest) → c.rest.result ≡ length (take c.rest.result c.rest.new.1.1.0)
-gone_front c = c.rest.ensures.1 ∙ sym (ap length c.rest.ensures.0)
+gone_front : (c : tie.After-rest-count) → c.rest-count.result ≡ length (take c.rest-count.result c.rest-count.new.out)
+gone_front c = c.rest-count.ensures.1 ∙ sym (ap length c.rest-count.ensures.0)
 
 -- before any node is struck out
-all_marked : (c : tie.After-rest)
+all_marked : (c : tie.After-rest-count)
     → let s = entry (tallied (opened c)) in
     let graph = s.args.graph.now in
     let starts = starts_in graph s.args.game.nodes in
     Marked (groups_in graph s.args.game.groups) starts (rev_in graph s.args.game.positions)
-    (numbers (nodes starts) 0) (opened c).open.new.1.1.0 (tallied (opened c)).tally.new.1.0
+    (numbers (nodes starts) 0) (opened c).open.new.member (tallied (opened c)).tally.new.counts
     s.args.dead.now
 unfolding part groups_in rev_in starts_in
 all_marked c =
     let o = opened c in
     let t = tallied o in
     let s = entry t in
-    let p = s.pre in
+    let p = s.requires in
     let live = p.1.1.1.0.long in
     let dead = p.1.1.1.1 in
     let gl = groups_length s.args.graph.now p.0.fits in
     let nl = starts_nodes s.args.graph.now p.0.fits in
     begun _ _ _ p.0.index _ _ _ (λ g h. dead.all g (omega (arith, gl, dead.long)))
     (λ x h. t.tally.ensures x (omega (arith, live))) (λ x h. o.open.ensures x (omega arith))
-    (omega (arith, nl, p.1.1.0.long, o.open.kept.1.1.0)) (omega (arith, nl, live, t.tally.kept.1.0))
+    (omega (arith, nl, p.1.1.0.long, o.open.auto.member)) (omega (arith, nl, live, t.tally.auto.counts))
     (omega (arith, gl, dead.long))
 
-slice-aggregate-tally : tie.Need-slice-aggregate-tally
+slice-aggregate-tally : tie.Need-slice_bounds-tally-end
 slice-aggregate-tally c =
-    let s = c.before.before.before.before.before.before in
+    let s = c in
     groups_front s.args.graph.now s.requires.0.fits
 
 tally-requires : tie.Need-tally-requires
 unfolding part groups_in rev_in starts_in
 tally-requires c κs =
-    let s = c.before.before.before.before.before.before.before in
+    let s = c in
     let p = s.requires in
     let nl = starts_nodes s.args.graph.now p.0.fits in
     let gl = groups_length s.args.graph.now p.0.fits in (
@@ -75,55 +75,55 @@ tally-requires c κs =
 
 open-requires : tie.Need-open-requires
 open-requires c κs =
-    let t = c.before.before.before.before in
-    let p = (entry t).requires in
+    let t = c in
+    let p = (entry t.before.before.before).requires in
     let member = p.1.1.0 in (
-      omega (arith, p.1.1.1.0.long, t.tally.auto.1.0),
+      omega (arith, p.1.1.1.0.long, t.tally.auto.counts),
       (member.long, λ x h. member.all x (omega (arith, member.long))),
     )
 
-slice-aggregate-rest : tie.Need-slice-aggregate-rest
+slice-aggregate-rest : tie.Need-slice_bounds-rest-end
 slice-aggregate-rest c = search rules
 
-rest-requires : tie.Need-rest-requires
+rest-requires : tie.Need-rest-count-requires
 rest-requires c κs = search rules
 
-array-share-prefix-gone : tie.Need-array-share-prefix-gone
+array-share-prefix-gone : tie.Need-slice_bounds-gone-end
 array-share-prefix-gone c = front_room _ _ (gone_front c.before)
 
-slice-aggregate-strike-in : tie.Need-slice-aggregate-strike-in
+slice-aggregate-strike-in : tie.Need-slice_bounds-strike_in-end
 slice-aggregate-strike-in c = gone_front c.before.before
 
-strike-in-requires : tie.Need-strike-in-requires
+strike-in-requires : tie.Need-strike_in-requires
 strike-in-requires c κs =
     let r = rested c in
     let s = entry (tallied (opened r)) in (
-      s.pre.0,
+      s.requires.0,
       (
-        λ x h. others_below s.args.game.nodes s.args.start.now x (rw r.rest.ensures.0 at h),
+        λ x h. others_below s.args.game.nodes s.args.start.now x (rw r.rest-count.ensures.0 at h),
         (_, all_marked r),
       ),
     )
 
-same_length : tie.Need-same-length
+same_length : tie.Need-shape_of-member
 same_length c = search rules
 
-same-length-2 : tie.Need-same-length-2
+same-length-2 : tie.Need-shape_of-live
 same-length-2 c = search rules
 
-same-length-3 : tie.Need-same-length-3
+same-length-3 : tie.Need-shape_of-dead
 same-length-3 c = search rules
 
 returns : tie.Need-returns
 returns c =
-    let strike = c.before.before.before.before.before.before in
-    let r = rested strike.before in
+    let strike = c in
+    let r = rested strike.before.before.before.before.before.before.before in
     let s = entry (tallied (opened r)) in
     let n = s.args.game.nodes in
-    let nl = starts_nodes s.args.graph.now s.pre.0.fits in
-    let is : without (take r.rest.result r.rest.last.1.1.0) (numbers n 0) ≡ s.args.start.now =
-    ap (λ (l : List ℕ). without l (numbers n 0)) r.rest.ensures.0 ∙ without_others n _ s.pre.1.0 in
-    rw is at (rw nl at (strike.strike-in.ensures _ (all_marked r)))
+    let nl = starts_nodes s.args.graph.now s.requires.0.fits in
+    let is : without (take r.rest-count.result r.rest-count.new.out) (numbers n 0) ≡ s.args.start.now =
+    ap (λ (l : List ℕ). without l (numbers n 0)) r.rest-count.ensures.0 ∙ without_others n _ s.requires.1.0 in
+    rw is at (rw nl at (strike.strike_in.ensures _ (all_marked r)))
 
 pub begin_spec : {M : Type 1} → statement M
 begin_spec =

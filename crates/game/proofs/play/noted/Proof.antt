@@ -8,23 +8,23 @@ use Rattle.game.specs.Playing.{last_eight}
 use Rattle.game.proofs.play.noted.Statement.{statement}
 use Rattle.game.proofs.play.noted.Tie as tie
 
-sub-last : tie.Need-overflow-sub-last
+sub-last : tie.Need-overflow_sub-last
 sub-last c = search rules
 
-add-result : tie.Need-overflow-add-result
+add-result : tie.Need-overflow_add-result
 add-result c = search rules
 
-mul-result : tie.Need-overflow-mul-result
+mul-result : tie.Need-offset_bounds-scratch-last
 mul-result c = search rules
 
-shared-slice-read-result : tie.Need-shared-slice-read-result
+shared-slice-read-result : tie.Need-bounds-scratch-last
 shared-slice-read-result c = search rules
 
 returns : tie.Need-returns
 unfolding last_eight
 returns c =
-    let xs = c.before.args.scratch.now in
-    sym (get_or-drop (length xs - 8) xs c.before.args.goal 0)
+    let xs = c.args.scratch.now in
+    sym (get_or-drop (length xs - 8) xs c.args.goal 0)
 
 pub noted_spec : {M : Type 1} → statement M
 noted_spec = tie.close (tie.spec sub-last add-result mul-result shared-slice-read-result returns)

@@ -7,29 +7,29 @@ use Rattle.game.proofs.play.roomy.Statement.{statement}
 use Rattle.game.proofs.play.roomy.Tie as tie
 
 -- the places are counted, seen from the test
-abbrev counted : tie.After-struct-known5 → tie.After-places
+abbrev counted : tie.After-struct_known-5-1 → tie.After-places-most
 counted c = c.before.before.before.before.before
 
-places-requires : tie.Need-places-requires
+places-requires : tie.Need-places-most-requires
 places-requires c κs = search rules
 
-returns : tie.Need-returns
-returns c = figures_first _ _ _ _ _ _ _ (counted c.before).places.ensures (not-true _ c.if1.true)
+returns : tie.Need-returns-then-not-small
+returns c = figures_first _ _ _ _ _ _ _ (counted c.before).places-most.ensures (not-true _ c.if-not-small.true-raw)
 
-mul-result : tie.Need-overflow-mul-result
+mul-result : tie.Need-overflow_mul-result
 mul-result c =
     let k = counted c.before.before in
-    let a = k.before.args in
+    let a = k.args in
     let s = a.shape in
     omega (
       arith,
-      figures_product s.nodes s.groups s.positions s.goals a.graph k.places.result
-          (not-false _ c.before.if1.false),
+      figures_product s.nodes s.groups s.positions s.goals a.graph k.places-most.result
+          (not-false _ c.if-not-small.false-raw),
     )
 
-returns-2 : tie.Need-returns-2
+returns-2 : tie.Need-returns
 returns-2 c =
-    figures_first _ _ _ _ _ _ _ (counted c.before.before).places.ensures (not-false _ c.before.if1.false)
+    figures_first _ _ _ _ _ _ _ (counted c.before.before).places-most.ensures (not-false _ c.if-not-small.false-raw)
 
 pub roomy_spec : {M : Type 1} → statement M
 roomy_spec = tie.close (tie.spec places-requires returns mul-result returns-2)

@@ -7,63 +7,63 @@ use Rattle.game.proofs.Parts.{groups_front, rev_end}
 use Rattle.game.proofs.play.sound.Statement.{statement}
 use Rattle.game.proofs.play.sound.Tie as tie
 
-places-requires : tie.Need-places-requires
+places-requires : tie.Need-places-rev-requires
 places-requires c κs = search rules
 
-sub-starts : tie.Need-overflow-sub-starts
+sub-starts : tie.Need-overflow_sub-starts
 sub-starts c = search rules
 
-add-rising : tie.Need-overflow-add-rising
+add-rising : tie.Need-overflow_add-nodes
 add-rising c = search rules
 
-add-rising-2 : tie.Need-overflow-add-rising-2
+add-rising-2 : tie.Need-overflow_add-starts
 add-rising-2 c = search rules
 
-mul-rising : tie.Need-overflow-mul-rising
+mul-rising : tie.Need-offset_bounds-graph-starts
 mul-rising c = search rules
 
-sub-rising : tie.Need-overflow-sub-rising
+sub-rising : tie.Need-slice_bounds-rising-count
 sub-rising c = search rules
 
-part-rising-start : tie.Need-slice-bounds-rising-start
+part-rising-start : tie.Need-slice_bounds-rising-start
 part-rising-start c = search rules
 
-part-rising-end : tie.Need-slice-bounds-rising-end
+part-rising-end : tie.Need-slice_bounds-rising-end
 part-rising-end c = search rules
 
 rising-requires : tie.Need-rising-requires
 rising-requires c κs = search rules
 
-add-below : tie.Need-overflow-add-below
+add-below : tie.Need-overflow_add-rev
 add-below c = search rules
 
-mul-below : tie.Need-overflow-mul-below
+mul-below : tie.Need-offset_bounds-graph-rev
 mul-below c = search rules
 
-sub-below : tie.Need-overflow-sub-below
+sub-below : tie.Need-slice_bounds-below-count
 sub-below c = search rules
 
-part-below-start : tie.Need-slice-bounds-below-start
+part-below-start : tie.Need-slice_bounds-below-start
 part-below-start c = search rules
 
-part-below-end : tie.Need-slice-bounds-below-end
+part-below-end : tie.Need-slice_bounds-below-end
 part-below-end c =
-    let p = c.before.before in
-    let s = p.before.before.before in
-    omega (arith, p.places.ensures, rev_end s.args.graph.now s.requires)
+    let p = c in
+    let s = p in
+    omega (arith, p.places-rev.ensures, rev_end s.args.graph.now s.requires)
 
-cast-below : tie.Need-overflow-cast-below
+cast-below : tie.Need-overflow_cast-groups
 cast-below c = search rules
 
 below-requires : tie.Need-below-requires
 below-requires c κs = search rules
 
-slice-aggregate-below : tie.Need-slice-aggregate-below
+slice-aggregate-below : tie.Need-slice_bounds-below-end-2
 slice-aggregate-below c =
-    let s = c.before.before.before.before.before.before.before.before in
+    let s = c in
     groups_front s.args.graph.now s.requires
 
-cast-below-2 : tie.Need-overflow-cast-below-2
+cast-below-2 : tie.Need-overflow_cast-nodes
 cast-below-2 c = search rules
 
 below-requires-2 : tie.Need-below-requires-2
@@ -75,10 +75,10 @@ rises-requires c κs = search rules
 returns : tie.Need-returns
 unfolding part groups_in rev_in starts_in
 returns c =
-    let below = c.before.before.before in
-    let rising = below.before.before in
-    four_tests rising.rising.ensures (rw rising.before.before.places.ensures at below.below.ensures)
-    c.before.below2.ensures c.rises.ensures
+    let below = c in
+    let rising = below in
+    four_tests rising.rising.ensures (rw rising.places-rev.ensures at below.below.ensures)
+    c.below-2.ensures c.rises.ensures
 
 pub sound_spec : {M : Type 1} → statement M
 sound_spec =

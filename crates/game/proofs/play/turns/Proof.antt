@@ -20,8 +20,8 @@ use Rattle.game.proofs.Goals.{turn_on, turn-round, turn-few, turn-quiet}
 use Rattle.game.proofs.play.turns.Statement.{statement}
 use Rattle.game.proofs.play.turns.Tie as tie
 
-abbrev invariant-loop : tie.invariant-loop
-invariant-loop graph game sizes start dead₀ scratch₀ waits₀ nodes goals member₀ live₀ queue₀ list₀ kept₀ goal₀ still₀
+abbrev invariant-loop-still : tie.invariant-loop-still
+invariant-loop-still graph game sizes start dead₀ scratch₀ waits₀ nodes goals member₀ live₀ queue₀ list₀ kept₀ goal₀ still₀
     dead scratch waits member live queue list kept goal still =
     Outset graph game.nodes game.groups game.positions game.goals start waits₀ member live dead waits
     scratch queue list kept
@@ -29,344 +29,344 @@ invariant-loop graph game sizes start dead₀ scratch₀ waits₀ nodes goals me
     × Quiet graph game.nodes game.groups game.positions game.goals (take kept list) (last_eight scratch)
     waits goal still
 
-abbrev decreases-loop : tie.decreases-loop
-decreases-loop graph game sizes start dead₀ scratch₀ waits₀ nodes goals member₀ live₀ queue₀ list₀ kept₀ goal₀ still₀
+abbrev decreases-loop-still : tie.decreases-loop-still
+decreases-loop-still graph game sizes start dead₀ scratch₀ waits₀ nodes goals member₀ live₀ queue₀ list₀ kept₀ goal₀ still₀
     dead scratch waits member live queue list kept goal still = kept * 9 + (8 - still)
 
 -- the set begun, seen from the copy, and the function's entry, seen from there and from a round's beginning
-abbrev begun : tie.After-list invariant-loop decreases-loop → tie.After-begin invariant-loop decreases-loop
+abbrev begun : tie.After-list-1 invariant-loop-still decreases-loop-still → tie.After-begin invariant-loop-still decreases-loop-still
 begun c = c.before.before.before.before.before
 
-abbrev opened : tie.After-begin invariant-loop decreases-loop → tie.Start invariant-loop decreases-loop
+abbrev opened : tie.After-begin invariant-loop-still decreases-loop-still → tie.Start invariant-loop-still decreases-loop-still
 opened c = c.before.before.before.before.before.before.before.before.before.before
 
-abbrev entry : tie.At-loop invariant-loop decreases-loop → tie.Start invariant-loop decreases-loop
-entry c = opened (begun c.before.before.before)
+abbrev entry : tie.At-loop-still invariant-loop-still decreases-loop-still → tie.Start invariant-loop-still decreases-loop-still
+entry c = c.before.before.before.before.before.before.before.before.before.before.before.before.before.before.before.before.before.before
 
 -- the figures of the seek and its turn, the seek, the figures of the narrow, and that
-abbrev figures : tie.After-queue invariant-loop decreases-loop → tie.After-figured invariant-loop decreases-loop
+abbrev figures : tie.After-queue-1 invariant-loop-still decreases-loop-still → tie.After-figured invariant-loop-still decreases-loop-still
 figures c = c.before.before.before.before.before
 
-abbrev in_turn_lem : tie.After-figured invariant-loop decreases-loop → tie.In-loop invariant-loop decreases-loop
-in_turn_lem c = c.before.before.before
+abbrev in_turn_lem : tie.After-figured invariant-loop-still decreases-loop-still → tie.In-loop-still invariant-loop-still decreases-loop-still
+in_turn_lem c = c.before.before
 
-abbrev turn : tie.After-queue invariant-loop decreases-loop → tie.At-loop invariant-loop decreases-loop
-turn c = (in_turn_lem (figures c)).before
+abbrev turn : tie.After-queue-1 invariant-loop-still decreases-loop-still → tie.At-loop-still invariant-loop-still decreases-loop-still
+turn c = c.before.before.before.before.before.before.before.before
 
-abbrev sought : tie.After-queue2 invariant-loop decreases-loop → tie.After-seek invariant-loop decreases-loop
+abbrev sought : tie.After-queue-in-loop-still-1 invariant-loop-still decreases-loop-still → tie.After-seek invariant-loop-still decreases-loop-still
 sought c = c.before.before.before.before.before
 
-abbrev column : tie.After-queue3 invariant-loop decreases-loop → tie.After-figured2 invariant-loop decreases-loop
-column c = c.before.before.before.before.before.before.before
+abbrev column : tie.After-queue-in-loop-still-2-1 invariant-loop-still decreases-loop-still → tie.After-figured-in-loop-still invariant-loop-still decreases-loop-still
+column c = c.before.before.before.before.before.before
 
-abbrev noted-again : tie.After-figured2 invariant-loop decreases-loop → tie.After-seek invariant-loop decreases-loop
-noted-again c = sought c.before.before.before
+abbrev noted-again : tie.After-figured-in-loop-still invariant-loop-still decreases-loop-still → tie.After-seek invariant-loop-still decreases-loop-still
+noted-again c = c.before.before.before.before.before.before.before
 
-abbrev narrowed : tie.After-queue4 invariant-loop decreases-loop → tie.After-narrow invariant-loop decreases-loop
+abbrev narrowed : tie.After-queue-in-loop-still-3-1 invariant-loop-still decreases-loop-still → tie.After-narrow-left invariant-loop-still decreases-loop-still
 narrowed c = c.before.before.before.before.before.before
 
 -- the goal is reached within the set
-reached : (c : tie.After-seek invariant-loop decreases-loop)
+reached : (c : tie.After-seek invariant-loop-still decreases-loop-still)
     → let t = turn c.before in
     let s = (entry t).args in
     let game = s.game in
-    SoughtIn s.graph.now game.nodes game.groups game.positions (take t.loop.kept t.loop.list)
-    t.loop.goal (t.loop.goal + 1) (last_eight t.loop.scratch) t.loop.waits
-    (last_eight c.seek.new.1.1.1.1.1.0) c.seek.new.1.1.1.1.1.1.0
+    SoughtIn s.graph.now game.nodes game.groups game.positions (take t.loop-still.kept t.loop-still.list)
+    t.loop-still.goal (t.loop-still.goal + 1) (last_eight t.loop-still.scratch) t.loop-still.waits
+    (last_eight c.seek.new.scratch) c.seek.new.waits
 reached c = rw (figures c.before).figured.ensures at c.seek.ensures.0
 
 -- its column is one of the goals' columns
-ends : (c : tie.At-loop invariant-loop decreases-loop)
-    → let game = (entry c).args.game in (c.loop.goal + 1) * game.nodes ≤ game.goals * game.nodes
+ends : (c : tie.At-loop-still invariant-loop-still decreases-loop-still)
+    → let game = (entry c).args.game in (c.loop-still.goal + 1) * game.nodes ≤ game.goals * game.nodes
 ends c =
     let game = (entry c).args.game in
-    mul-le-mul_right {m = c.loop.goal + 1} {n = game.goals} game.nodes
-    (omega (arith, c.loop.invariant.3.low))
+    mul-le-mul_right {m = c.loop-still.goal + 1} {n = game.goals} game.nodes
+    (omega (arith, c.loop-still.invariant.3.low))
 
 -- and nothing else is written
-untouched : (c : tie.After-seek invariant-loop decreases-loop)
+untouched : (c : tie.After-seek invariant-loop-still decreases-loop-still)
     → let s = (entry (turn c.before)).args in
-    Rest (s.game.goals * s.game.nodes) s.waits.now c.seek.new.1.1.1.1.1.1.0
+    Rest (s.game.goals * s.game.nodes) s.waits.now c.seek.new.waits
 untouched c =
     let t = turn c.before in
-    rest_more t.loop.inv.0.rest
+    rest_more t.loop-still.invariant.0.rest
     (rest_from (ends t) (rw (figures c.before).figured.ensures at c.seek.ensures.1))
 
 -- there is room for it, and the waits are few enough to be counted in bytes
-room : (c : tie.After-seek invariant-loop decreases-loop)
+room : (c : tie.After-seek invariant-loop-still decreases-loop-still)
     → let t = turn c.before in
     let n = (entry t).args.game.nodes in
-    let waits = c.seek.new.1.1.1.1.1.1.0 in
-    (t.loop.goal * n + n ≤ length waits) × (length waits * 2 < 2 ^ 63)
+    let waits = c.seek.new.waits in
+    (t.loop-still.goal * n + n ≤ length waits) × (length waits * 2 < 2 ^ 63)
 room c =
     let t = turn c.before in
     let s = entry t in
     let game = s.args.game in
-    let most = mul-le-mul_right {m = suc t.loop.goal} {n = game.goals} game.nodes t.loop.inv.3.low in (
-      omega (arith, most, s.pre.room, (untouched c).long),
-      omega (arith, (untouched c).long, s.good.1.1.1.1.1.1),
+    let most = mul-le-mul_right {m = suc t.loop-still.goal} {n = game.goals} game.nodes t.loop-still.invariant.3.low in (
+      omega (arith, most, s.requires.room, (untouched c).long),
+      omega (arith, (untouched c).long, s.well_formed.1.1.1.1.1.1),
     )
 
 -- a goal's number is below 8, and so is the number of turns
-low : (c : tie.In-loop invariant-loop decreases-loop) → (c.before.loop.goal < 8) × (c.before.loop.still < 8)
+low : (c : tie.In-loop-still invariant-loop-still decreases-loop-still) → (c.loop-still.goal < 8) × (c.loop-still.still < 8)
 low c =
-    let few = (entry c.before).pre.ready.few_goals in
-    (omega (arith, few, c.before.loop.invariant.3.low), omega (arith, few, c.loop-test.true))
+    let few = (entry c.before).requires.ready.few_goals in
+    (omega (arith, few, c.loop-still.invariant.3.low), omega (arith, few, c.loop-still-test.true))
 
-slice-aggregate-begin : tie.Need-slice-aggregate-begin invariant-loop decreases-loop
+slice-aggregate-begin : tie.Need-slice_bounds-begin-end invariant-loop-still decreases-loop-still
 slice-aggregate-begin c = search rules
 
-slice-aggregate-begin-2 : tie.Need-slice-aggregate-begin-2 invariant-loop decreases-loop
+slice-aggregate-begin-2 : tie.Need-slice_bounds-begin-end-2 invariant-loop-still decreases-loop-still
 slice-aggregate-begin-2 c = search rules
 
-begin-requires : tie.Need-begin-requires invariant-loop decreases-loop
+begin-requires : tie.Need-begin-requires invariant-loop-still decreases-loop-still
 begin-requires c κs =
-    let p = c.before.before.before.before.before.before.before.before.before.requires in
+    let p = c.requires in
     set_begins _ _ _ _ _ p.ready _ _ p.start_rises p.no_dead
 
-slice-aggregate-copy : tie.Need-slice-aggregate-copy invariant-loop decreases-loop
+slice-aggregate-copy : tie.Need-slice_bounds-copy-end invariant-loop-still decreases-loop-still
 slice-aggregate-copy c = search rules
 
-copy-requires : tie.Need-copy-requires invariant-loop decreases-loop
+copy-requires : tie.Need-copy-requires invariant-loop-still decreases-loop-still
 copy-requires c κs = search rules
 
-loop-holds : tie.Need-loop-init invariant-loop decreases-loop
+loop-holds : tie.Need-loop-still-init invariant-loop-still decreases-loop-still
 loop-holds c =
     let b = begun c.before.before in
     let s = opened b in
-    let kept = b.begin.kept.1.1.1 in (
-      first_round _ _ _ _ _ s.pre.ready _ _ _ _ _ _ _ _ s.pre.start_rises b.begin.ensures
-          (kept.0 ∙ length-replicate {A = ℕ} 1024 65535) (kept.1.0 ∙ length-replicate {A = ℕ} 1024 0)
-          s.pre.no_targets (length-replicate {A = ℕ} 1024 0) c.before.copy.ensures,
+    let kept = b.begin.auto in (
+      first_round _ _ _ _ _ s.requires.ready _ _ _ _ _ _ _ _ s.requires.start_rises b.begin.ensures
+          (kept.member ∙ length-replicate {A = ℕ} 1024 65535) (kept.live ∙ length-replicate {A = ℕ} 1024 0)
+          s.requires.no_targets (length-replicate {A = ℕ} 1024 0) c.copy.ensures,
       refl,
       refl,
-      quiet_none _ _ _ _ _ _ _ _ 0 s.pre.ready.some_goal,
+      quiet_none _ _ _ _ _ _ _ _ 0 s.requires.ready.some_goal,
     )
 
-noted-requires : tie.Need-noted-requires invariant-loop decreases-loop
+noted-requires : tie.Need-noted-was-requires invariant-loop-still decreases-loop-still
 noted-requires c κs =
-    let t = c.before in
-    (omega (arith, t.before.loop.invariant.0.scratch_long), (low t).0)
+    let t = c in
+    (omega (arith, t.loop-still.invariant.0.scratch_long), (low t).0)
 
-add-figured : tie.Need-overflow-add-figured invariant-loop decreases-loop
-add-figured c = omega (arith, low c.before.before)
+add-figured : tie.Need-overflow_add-goal invariant-loop-still decreases-loop-still
+add-figured c = omega (arith, low c.before)
 
-figured-requires : tie.Need-figured-requires invariant-loop decreases-loop
+figured-requires : tie.Need-figured-requires invariant-loop-still decreases-loop-still
 figured-requires c κs = search rules
 
-array-share-prefix-list : tie.Need-array-share-prefix-list invariant-loop decreases-loop
+array-share-prefix-list : tie.Need-slice_bounds-list-end invariant-loop-still decreases-loop-still
 array-share-prefix-list c = search rules
 
-slice-aggregate-seek : tie.Need-slice-aggregate-seek invariant-loop decreases-loop
+slice-aggregate-seek : tie.Need-slice_bounds-seek-end invariant-loop-still decreases-loop-still
 slice-aggregate-seek c =
-    let l = (in_turn_lem c.before).before.loop in sym (length-take-le l.kept l.list l.inv.0.room)
+    let l = (in_turn_lem c.before).loop-still in sym (length-take-le l.kept l.list l.invariant.0.room)
 
-slice-aggregate-seek-2 : tie.Need-slice-aggregate-seek-2 invariant-loop decreases-loop
+slice-aggregate-seek-2 : tie.Need-slice_bounds-seek-end-in-loop-still invariant-loop-still decreases-loop-still
 slice-aggregate-seek-2 c = search rules
 
-slice-aggregate-seek-3 : tie.Need-slice-aggregate-seek-3 invariant-loop decreases-loop
+slice-aggregate-seek-3 : tie.Need-slice_bounds-seek-end-in-loop-still-2 invariant-loop-still decreases-loop-still
 slice-aggregate-seek-3 c = search rules
 
-seek-requires : tie.Need-seek-requires invariant-loop decreases-loop
+seek-requires : tie.Need-seek-requires invariant-loop-still decreases-loop-still
 seek-requires c κs =
     let t = turn c in
-    let i = t.loop.inv.0 in
+    let i = t.loop-still.invariant.0 in
     let s = entry t in
     rw (figures c).figured.ensures (
-      ready_fewer (t.loop.goal + 1) (omega arith) (omega (arith, t.loop.inv.3.low)) s.pre.ready,
+      ready_fewer (t.loop-still.goal + 1) (omega arith) (omega (arith, t.loop-still.invariant.3.low)) s.requires.ready,
       (
-        s.pre.sized,
+        s.requires.sized,
         (
           i.round.sifted,
           (
-            standing _ _ _ _ _ s.pre.ready _ _ _ _ i.marked,
+            standing _ _ _ _ _ s.requires.ready _ _ _ _ i.marked,
             (
               i.scratch_long,
-              (omega (arith, s.pre.room, i.rest.long, ends t), (i.queue_long, omega arith)),
+              (omega (arith, s.requires.room, i.rest.long, ends t), (i.queue_long, omega arith)),
             ),
           ),
         ),
       ),
     )
 
-mul-from : tie.Need-overflow-mul-from invariant-loop decreases-loop
+mul-from : tie.Need-overflow_mul-from invariant-loop-still decreases-loop-still
 mul-from c = omega (arith, room (sought c))
 
-noted-requires-2 : tie.Need-noted-requires-2 invariant-loop decreases-loop
+noted-requires-2 : tie.Need-noted-requires invariant-loop-still decreases-loop-still
 noted-requires-2 c κs =
-    let sk = sought c.before in
+    let sk = sought c in
     let t = in_turn_lem (figures sk.before) in
-    (omega (arith, t.before.loop.inv.0.scratch_long, sk.seek.kept.1.1.1.1.1.0), (low t).0)
+    (omega (arith, t.loop-still.invariant.0.scratch_long, sk.seek.auto.scratch), (low t).0)
 
-figured-requires-2 : tie.Need-figured-requires-2 invariant-loop decreases-loop
+figured-requires-2 : tie.Need-figured-requires-in-loop-still invariant-loop-still decreases-loop-still
 figured-requires-2 c κs = search rules
 
-add-narrow : tie.Need-overflow-add-narrow invariant-loop decreases-loop
+add-narrow : tie.Need-overflow_add-from invariant-loop-still decreases-loop-still
 add-narrow c = omega (arith, room (noted-again c))
 
-mul-narrow : tie.Need-overflow-mul-narrow invariant-loop decreases-loop
+mul-narrow : tie.Need-offset_bounds-waits-from invariant-loop-still decreases-loop-still
 mul-narrow c = omega (arith, room (noted-again c))
 
-sub_narrow : tie.Need-overflow-sub-narrow invariant-loop decreases-loop
+sub_narrow : tie.Need-slice_bounds-narrow-count invariant-loop-still decreases-loop-still
 sub_narrow c = omega (arith, room (noted-again c))
 
-part-narrow-start : tie.Need-slice-bounds-narrow-start invariant-loop decreases-loop
-part-narrow-start c = omega (arith, room (noted-again c.before))
+part-narrow-start : tie.Need-slice_bounds-narrow-start invariant-loop-still decreases-loop-still
+part-narrow-start c = omega (arith, room (noted-again c))
 
-part-narrow-end : tie.Need-slice-bounds-narrow-end invariant-loop decreases-loop
-part-narrow-end c = omega (arith, room (noted-again c.before))
+part-narrow-end : tie.Need-slice_bounds-narrow-end invariant-loop-still decreases-loop-still
+part-narrow-end c = omega (arith, room (noted-again c))
 
-slice-aggregate-narrow : tie.Need-slice-aggregate-narrow invariant-loop decreases-loop
+slice-aggregate-narrow : tie.Need-slice_bounds-narrow-end-in-loop-still invariant-loop-still decreases-loop-still
 slice-aggregate-narrow c =
-    sym (turn (noted-again c.before.before.before).before).loop.inv.0.list_long
+    sym (turn (noted-again c.before.before).before).loop-still.invariant.0.list_long
 
-slice-aggregate-narrow-2 : tie.Need-slice-aggregate-narrow-2 invariant-loop decreases-loop
+slice-aggregate-narrow-2 : tie.Need-slice_bounds-narrow-end-in-loop-still-2 invariant-loop-still decreases-loop-still
 slice-aggregate-narrow-2 c =
-    sym (turn (noted-again c.before.before.before.before).before).loop.inv.0.member_long
+    sym (turn (noted-again c.before.before.before).before).loop-still.invariant.0.member_long
 
-slice-aggregate-narrow-3 : tie.Need-slice-aggregate-narrow-3 invariant-loop decreases-loop
+slice-aggregate-narrow-3 : tie.Need-slice_bounds-narrow-end-in-loop-still-3 invariant-loop-still decreases-loop-still
 slice-aggregate-narrow-3 c =
-    sym (turn (noted-again c.before.before.before.before.before).before).loop.inv.0.live_long
+    sym (turn (noted-again c.before.before.before.before).before).loop-still.invariant.0.live_long
 
-slice-aggregate-narrow-4 : tie.Need-slice-aggregate-narrow-4 invariant-loop decreases-loop
+slice-aggregate-narrow-4 : tie.Need-slice_bounds-narrow-end-in-loop-still-4 invariant-loop-still decreases-loop-still
 slice-aggregate-narrow-4 c = search rules
 
-narrow-requires : tie.Need-narrow-requires invariant-loop decreases-loop
+narrow-requires : tie.Need-narrow-left-requires invariant-loop-still decreases-loop-still
 narrow-requires c κs =
     let f = column c in
     let sk = noted-again f in
     let t = turn sk.before in
-    let i = t.loop.inv in
+    let i = t.loop-still.invariant in
     let s = entry t in
     let n = s.args.game.nodes in
-    let from = t.loop.goal * n in
-    let waits = sk.seek.last.1.1.1.1.1.1.0 in
+    let from = t.loop-still.goal * n in
+    let waits = sk.seek.new.waits in
     let long = length-take-le (from + n - from) (drop from waits) (omega (arith, length-drop from waits, room sk)) in
-    rw f.figured2.ensures (record {
-      ready = ready_fewer 1 (omega arith) s.pre.ready.some_goal s.pre.ready;
+    rw f.figured-in-loop-still.ensures (record {
+      ready = ready_fewer 1 (omega arith) s.requires.ready.some_goal s.requires.ready;
       front = i.0.room;
       sifted = i.0.round.sifted;
       columns = omega (arith, long);
-      room = omega (arith, s.pre.ready.fits.few_nodes, sk.seek.kept.1.1.1.1.1.1.1.0, i.0.queue_long);
+      room = omega (arith, s.requires.ready.fits.few_nodes, sk.seek.auto.queue, i.0.queue_long);
       marked = i.0.marked;
       goes =
-          turn_on _ _ _ _ _ s.pre.ready _ _ _ _ _ _ _ _ i.0.round i.3 (reached sk) _ _ _ i.0.marked;
+          turn_on _ _ _ _ _ s.requires.ready _ _ _ _ _ _ _ _ i.0.round i.3 (reached sk) _ _ _ i.0.marked;
     })
 
 -- whether there are other targets than before
-anew_is : (c : tie.After-figured2 invariant-loop decreases-loop)
+anew_is : (c : tie.After-figured-in-loop-still invariant-loop-still decreases-loop-still)
     → let sk = noted-again c in
     let f = figures sk.before in
     let t = turn sk.before in
-    not (eqb c.before.noted2.result f.before.noted.result)
-    ≡ not (eqb (get_or (last_eight sk.seek.last.1.1.1.1.1.0) t.loop.goal 0)
-    (get_or (last_eight t.loop.scratch) t.loop.goal 0))
+    not (eqb c.noted.result f.noted-was.result)
+    ≡ not (eqb (get_or (last_eight sk.seek.new.scratch) t.loop-still.goal 0)
+    (get_or (last_eight t.loop-still.scratch) t.loop-still.goal 0))
 anew_is c =
     let sk = noted-again c in
     let f = figures sk.before in
-    let new = get_or (last_eight sk.seek.last.1.1.1.1.1.0) (turn sk.before).loop.goal 0 in
-    ap (λ (v : ℕ). not (eqb v f.before.noted.result)) c.before.noted2.ensures
-    ∙ ap (λ (v : ℕ). not (eqb new v)) f.before.noted.ensures
+    let new = get_or (last_eight sk.seek.new.scratch) (turn sk.before).loop-still.goal 0 in
+    ap (λ (v : ℕ). not (eqb v f.noted-was.result)) c.noted.ensures
+    ∙ ap (λ (v : ℕ). not (eqb new v)) f.noted-was.ensures
 
 -- what is left of a turn's set, in the figures of the game
-left_is : (c : tie.After-narrow invariant-loop decreases-loop)
+left_is : (c : tie.After-narrow-left invariant-loop-still decreases-loop-still)
     → let f = column c.before in
     let sk = noted-again f in
     let t = turn sk.before in
     let s = (entry t).args in
     let game = s.game in
     let n = game.nodes in
-    let from = t.loop.goal * n in
-    let waits = take (from + n - from) (drop from sk.seek.last.1.1.1.1.1.1.0) in
-    let set = take t.loop.kept t.loop.list in
-    let left = c.narrow.new.1.1.1 in
-    (c.narrow.result ≡ length (take c.narrow.result left.0))
-    × ((take c.narrow.result left.0
-    ≡ pick (not (eqb f.before.noted2.result (figures sk.before).before.noted.result))
+    let from = t.loop-still.goal * n in
+    let waits = take (from + n - from) (drop from sk.seek.new.waits) in
+    let set = take t.loop-still.kept t.loop-still.list in
+    let left = c.narrow-left.new in
+    (c.narrow-left.result ≡ length (take c.narrow-left.result left.list))
+    × ((take c.narrow-left.result left.list
+    ≡ pick (not (eqb f.noted.result (figures sk.before).noted-was.result))
     (drained (can_in s.graph.now n game.groups game.positions) (over_at (labels_in s.graph.now n))
     (filter (waits_all waits n 1) set))
     set)
     × MarkedIn s.graph.now n game.groups game.positions game.goals
-    (take c.narrow.result left.0) left.1.0 left.1.1.0 left.1.1.1.0)
-left_is c = rw (column c.before).figured2.ensures at c.narrow.ensures
+    (take c.narrow-left.result left.list) left.member left.live left.dead)
+left_is c = rw (column c.before).figured-in-loop-still.ensures at c.narrow-left.ensures
 
-still-after-requires : tie.Need-still-after-requires invariant-loop decreases-loop
+still-after-requires : tie.Need-still_after-still-requires invariant-loop-still decreases-loop-still
 still-after-requires c κs = (low (in_turn_lem (figures (noted-again (column (narrowed c).before)).before))).1
 
-goal-after-requires : tie.Need-goal-after-requires invariant-loop decreases-loop
+goal-after-requires : tie.Need-goal_after-goal-requires invariant-loop-still decreases-loop-still
 goal-after-requires c κs =
     (low (in_turn_lem (figures (noted-again (column (narrowed c.before).before)).before))).0
 
 -- no more nodes are left than before
-fewer : (c : tie.After-narrow invariant-loop decreases-loop)
+fewer : (c : tie.After-narrow-left invariant-loop-still decreases-loop-still)
     → let t = turn (noted-again (column c.before)).before in
-    (length (take t.loop.kept t.loop.list) ≡ t.loop.kept) × (c.narrow.result ≤ t.loop.kept)
+    (length (take t.loop-still.kept t.loop-still.list) ≡ t.loop-still.kept) × (c.narrow-left.result ≤ t.loop-still.kept)
 fewer c =
     let f = column c.before in
     let sk = noted-again f in
     let t = turn sk.before in
-    let i = t.loop.inv in
-    let size = length-take-le t.loop.kept t.loop.list i.0.room in
+    let i = t.loop-still.invariant in
+    let size = length-take-le t.loop-still.kept t.loop-still.list i.0.room in
     let few =
-    turn-few _ _ _ _ _ (entry t).pre.ready _ _ _ _ _ _ _ _ i.0.round i.3 (reached sk) _ (anew_is f) _
+    turn-few _ _ _ _ _ (entry t).requires.ready _ _ _ _ _ _ _ _ i.0.round i.3 (reached sk) _ (anew_is f) _
     (left_is c).1.0 in
     (size, omega (arith, few, size, (left_is c).0))
 
-loop-less : tie.Need-loop-smaller invariant-loop decreases-loop
+loop-less : tie.Need-loop-still-smaller invariant-loop-still decreases-loop-still
 loop-less c =
     let d = narrowed c.before.before in
     let t = in_turn_lem (figures (noted-again (column d.before)).before) in
-    rw c.before.still_after.ensures
-    (turn_less t.before.loop.kept d.narrow.result t.before.loop.still (fewer d).1 (low t).1)
+    rw c.still_after-still.ensures
+    (turn_less t.loop-still.kept d.narrow-left.result t.loop-still.still (fewer d).1 (low t).1)
 
-loop-again : tie.Need-loop-preserved invariant-loop decreases-loop
+loop-again : tie.Need-loop-still-preserved invariant-loop-still decreases-loop-still
 loop-again c =
     let d = narrowed c.before.before in
     let f = column d.before in
     let sk = noted-again f in
     let u = in_turn_lem (figures sk.before) in
-    let t = u.before in
-    let s = entry t in
+    let t = u in
+    let s = entry t.before in
     let l = left_is d in
-    let i = t.loop.inv in
-    let kept = d.narrow.kept.1.1.1 in
-    let sought-kept = sk.seek.kept.1.1.1.1.1 in (
+    let i = t.loop-still.invariant in
+    let kept = d.narrow-left.auto in
+    let sought-kept = sk.seek.auto in (
       record {
-        room = omega (arith, (fewer d).1, kept.0, i.0.room);
+        room = omega (arith, (fewer d).1, kept.list, i.0.room);
         marked = l.1.1;
         round =
-            turn-round _ _ _ _ _ s.pre.ready _ _ _ _ _ _ _ _ i.0.round i.3 (reached sk) _ (anew_is f) _
+            turn-round _ _ _ _ _ s.requires.ready _ _ _ _ _ _ _ _ i.0.round i.3 (reached sk) _ (anew_is f) _
             l.1.0;
         rest = untouched sk;
-        scratch_long = omega (arith, sought-kept.0, i.0.scratch_long);
-        queue_long = kept.1.1.1.1.0 ∙ (sought-kept.1.1.0 ∙ i.0.queue_long);
-        list_long = kept.0 ∙ i.0.list_long;
-        member_long = kept.1.0 ∙ i.0.member_long;
-        live_long = kept.1.1.0 ∙ i.0.live_long;
+        scratch_long = omega (arith, sought-kept.scratch, i.0.scratch_long);
+        queue_long = kept.gone ∙ (sought-kept.queue ∙ i.0.queue_long);
+        list_long = kept.list ∙ i.0.list_long;
+        member_long = kept.member ∙ i.0.member_long;
+        live_long = kept.live ∙ i.0.live_long;
       },
-      kept.1.1.1.0 ∙ i.1,
-      sought-kept.0 ∙ i.2,
-      turn-quiet _ _ _ _ _ s.pre.ready _ _ _ _ _ _ _ _ i.0.round i.3 (reached sk) _ (anew_is f) _ l.1.0
-          u.loop-test.taken (fewer d).0 l.0 c.goal-after.ensures c.before.still_after.ensures,
+      kept.dead ∙ i.1,
+      sought-kept.scratch ∙ i.2,
+      turn-quiet _ _ _ _ _ s.requires.ready _ _ _ _ _ _ _ _ i.0.round i.3 (reached sk) _ (anew_is f) _ l.1.0
+          u.loop-still-test.true (fewer d).0 l.0 c.goal_after-goal.ensures c.still_after-still.ensures,
     )
 
-same_length : tie.Need-same-length invariant-loop decreases-loop
+same_length : tie.Need-shape_of-dead invariant-loop-still decreases-loop-still
 same_length c =
-    let t = c.before in t.loop.invariant.1 ∙ (begun t.before.before.before).begin.kept.1.1.1.1.1.0
+    let t = c in t.loop-still.invariant.1 ∙ (begun t.before.before.before.before).begin.auto.dead
 
-same-length-2 : tie.Need-same-length-2 invariant-loop decreases-loop
-same-length-2 c = c.before.loop.invariant.2
+same-length-2 : tie.Need-shape_of-scratch invariant-loop-still decreases-loop-still
+same-length-2 c = c.loop-still.invariant.2
 
-same-length-3 : tie.Need-same-length-3 invariant-loop decreases-loop
-same-length-3 c = c.before.loop.invariant.0.rest.long
+same-length-3 : tie.Need-shape_of-waits invariant-loop-still decreases-loop-still
+same-length-3 c = c.loop-still.invariant.0.rest.long
 
-returns : tie.Need-returns invariant-loop decreases-loop
+returns : tie.Need-returns invariant-loop-still decreases-loop-still
 returns c =
-    let t = c.before in
-    let p = (entry t).requires in
-    let i = t.loop.invariant in
-    let all = quiet_all _ _ _ _ _ i.3 c.loop-test.false in
-    let size = length-take-le t.loop.auto t.loop.list i.0.room in
+    let t = c in
+    let p = (entry t.before).requires in
+    let i = t.loop-still.invariant in
+    let all = quiet_all _ _ _ _ _ i.3 c.loop-still-test.false in
+    let size = length-take-le t.loop-still.kept t.loop-still.list i.0.room in
     let r = i.0.round in
     all-played _ _ _ _ _ p.ready _ _ _ _ r.sifted r.same all.0 all.1 _ _ size p.room i.0.rest
 
@@ -374,8 +374,8 @@ pub turns_spec : {M : Type 1} → statement M
 turns_spec =
     tie.close
     (tie.spec
-    invariant-loop
-    decreases-loop
+    invariant-loop-still
+    decreases-loop-still
     slice-aggregate-begin
     slice-aggregate-begin-2
     begin-requires

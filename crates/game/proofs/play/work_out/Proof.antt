@@ -16,15 +16,15 @@ abbrev entry : tie.After-roomy → tie.Start
 entry c = c.before.before.before.before
 
 -- what the tests say, one after the other
-roomy_is : (c : tie.Else1)
+roomy_is : (c : tie.Else-not-roomy)
     → let s = (entry c.before).args in
     let shape = s.shape in
     roomy_for shape.nodes shape.groups shape.positions shape.goals (length s.graph.now)
     (length s.waits.now)
     ≡ true
-roomy_is c = sym c.before.roomy.ensures ∙ not-false _ c.if1.false
+roomy_is c = sym c.roomy.ensures ∙ not-false _ c.if-not-roomy.false-raw
 
-tested : (c : tie.Else2)
+tested : (c : tie.Else-not-sound)
     → let s = (entry c.before.before.before).args in
     let shape = s.shape in
     Tested s.graph.now shape.nodes shape.groups shape.positions shape.goals s.start.now
@@ -32,26 +32,26 @@ tested : (c : tie.Else2)
 tested c =
     record {
       roomy = roomy_is c.before.before;
-      sound = sym c.before.sound.ensures ∙ not-false _ c.if2.false;
+      sound = sym c.sound.ensures ∙ not-false _ c.if-not-sound.false-raw;
     }
 
 roomy-requires : tie.Need-roomy-requires
 roomy-requires c κs = search rules
 
-returns : tie.Need-returns
+returns : tie.Need-returns-then-not-roomy
 returns c =
     let w = unplayable _ _ _ _ _ _ _
-    (not_roomy _ _ _ _ _ _ _ (sym c.before.roomy.ensures ∙ not-true _ c.if1.true)) in
+    (not_roomy _ _ _ _ _ _ _ (sym c.roomy.ensures ∙ not-true _ c.if-not-roomy.true-raw)) in
     (w.kept, w.waits)
 
 sound-requires : tie.Need-sound-requires
 sound-requires c κs = (roomy_says _ _ _ _ _ _ (roomy_is c)).fits
 
-returns-2 : tie.Need-returns-2
+returns-2 : tie.Need-returns-then-not-sound
 returns-2 c =
     let w = unplayable _ _ _ _ _ _ _
     (not_sound _ _ _ _ _ _ _ (roomy_is c.before.before)
-    (sym c.before.sound.ensures ∙ not-true _ c.if2.true)) in
+    (sym c.sound.ensures ∙ not-true _ c.if-not-sound.true-raw)) in
     (w.kept, w.waits)
 
 places-requires : tie.Need-places-requires
@@ -59,22 +59,22 @@ places-requires c κs = search rules
 
 small-requires : tie.Need-small-requires
 small-requires c κs =
-    let p = c.before.before in
-    (tested p.before, omega (arith, p.places.ensures, c.before.if3.true))
+    let p = c in
+    (tested p.before.before.before, omega (arith, p.places.ensures, c.if-places-le2048.true))
 
-same_length : tie.Need-same-length
+same_length : tie.Need-shape_of-waits-then-places-le2048
 same_length c = search rules
 
-returns-3 : tie.Need-returns-3
+returns-3 : tie.Need-returns-then-places-le2048
 returns-3 c = search rules
 
 large-requires : tie.Need-large-requires
 large-requires c κs = tested c.before.before.before
 
-same-length-2 : tie.Need-same-length-2
+same-length-2 : tie.Need-shape_of-waits
 same-length-2 c = search rules
 
-returns-4 : tie.Need-returns-4
+returns-4 : tie.Need-returns
 returns-4 c = search rules
 
 pub work_out_spec : {M : Type 1} → statement M

@@ -5,7 +5,7 @@ use Rattle.statements.specs.Sets.{bit}
 use Rattle.game.proofs.reach.bit_in.Statement.{statement}
 use Rattle.game.proofs.reach.bit_in.Tie as tie
 
-shr-result : tie.Need-overflow-shr-result
+shr-result : tie.Need-overflow_shr-result
 shr-result c = search rules
 
 returns : tie.Need-returns

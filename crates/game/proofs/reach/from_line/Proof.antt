@@ -14,91 +14,91 @@ use Rattle.game.proofs.reach.from_line.Statement.{statement}
 use Rattle.game.proofs.reach.from_line.Tie as tie
 
 -- the calls before the walk, and the function's entry
-abbrev copied : tie.After-spread-arg6 → tie.After-copy
-copied c = c.before.before.before.before.before.before.before.before
+abbrev copied : tie.After-spread-arg-5-1 → tie.After-copy
+copied c = c.before.before.before.before.before.before.before
 
 abbrev marked : tie.After-copy → tie.After-mark
-marked c = c.before.before.before.before.before
+marked c = c.before.before.before.before
 
-abbrev placed : tie.After-mark → tie.After-places
-placed c = c.before.before.before
+abbrev placed : tie.After-mark → tie.After-places-rev
+placed c = c.before.before
 
 abbrev entry : tie.After-mark → tie.Start
-entry c = (placed c).before.before.before.before.before.before.before
+entry c = c.before.before.before.before.before.before.before.before.before
 
 -- the waits before the walk
 waits_are : (c : tie.After-mark)
     → let s = (entry c).args in
-    c.mark.new.1.0 ≡ zeroed (take s.tail s.queue.now) (replicate s.game.nodes 65535)
+    c.mark.new.to ≡ zeroed (take s.tail s.queue.now) (replicate s.game.nodes 65535)
 waits_are c =
     let s = entry c in
-    c.mark.ensures ∙ ap (zeroed (take s.args.tail s.args.queue.now)) s.pre.1
+    c.mark.ensures ∙ ap (zeroed (take s.args.tail s.args.queue.now)) s.requires.1
 
-places-requires : tie.Need-places-requires
+places-requires : tie.Need-places-rev-requires
 places-requires c κs = search rules
 
-sub-starts : tie.Need-overflow-sub-starts
+sub-starts : tie.Need-overflow_sub-starts
 sub-starts c = search rules
 
-slice-reshare-prefix-mark : tie.Need-slice-reshare-prefix-mark
+slice-reshare-prefix-mark : tie.Need-slice_bounds-mark-end
 slice-reshare-prefix-mark c =
-    let s = c.before.before.before.before.before.before.before in
+    let s = c in
     front_room s.args.tail s.args.queue.now s.requires.0.number
 
-slice-aggregate-mark : tie.Need-slice-aggregate-mark
+slice-aggregate-mark : tie.Need-slice_bounds-mark-end-2
 slice-aggregate-mark c = search rules
 
 mark-requires : tie.Need-mark-requires
 mark-requires c κs = search rules
 
-slice-aggregate-copy : tie.Need-slice-aggregate-copy
+slice-aggregate-copy : tie.Need-slice_bounds-copy-end
 slice-aggregate-copy c =
-    let s = entry c.before.before.before in
-    sym (length-take-le s.args.game.groups s.args.sizes.now s.pre.0.sized.long)
+    let s = entry c.before.before in
+    sym (length-take-le s.args.game.groups s.args.sizes.now s.requires.0.sized.long)
 
 copy-requires : tie.Need-copy-requires
 copy-requires c κs = search rules
 
-add-spread : tie.Need-overflow-add-spread
+add-spread : tie.Need-overflow_add-rev
 add-spread c = search rules
 
-mul-spread : tie.Need-overflow-mul-spread
+mul-spread : tie.Need-offset_bounds-graph-rev
 mul-spread c = search rules
 
-sub-spread : tie.Need-overflow-sub-spread
+sub-spread : tie.Need-slice_bounds-spread-count
 sub-spread c = search rules
 
-part-spread-start : tie.Need-slice-bounds-spread-start
+part-spread-start : tie.Need-slice_bounds-spread-start
 part-spread-start c = search rules
 
-part-spread-end : tie.Need-slice-bounds-spread-end
+part-spread-end : tie.Need-slice_bounds-spread-end
 part-spread-end c =
     let m = marked c.before.before in
     let s = entry m in
-    omega (arith, (placed m).places.ensures, rev_end s.args.graph.now s.pre.0.fits)
+    omega (arith, (placed m).places-rev.ensures, rev_end s.args.graph.now s.requires.0.fits)
 
-add-spread-2 : tie.Need-overflow-add-spread-2
+add-spread-2 : tie.Need-overflow_add-nodes
 add-spread-2 c = search rules
 
-add-spread-3 : tie.Need-overflow-add-spread-3
+add-spread-3 : tie.Need-overflow_add-starts
 add-spread-3 c = search rules
 
-mul-spread-2 : tie.Need-overflow-mul-spread-2
+mul-spread-2 : tie.Need-offset_bounds-graph-starts
 mul-spread-2 c = search rules
 
-sub-spread-2 : tie.Need-overflow-sub-spread-2
+sub-spread-2 : tie.Need-slice_bounds-spread-count-2
 sub-spread-2 c = search rules
 
-part-spread-start-2 : tie.Need-slice-bounds-spread-start-2
+part-spread-start-2 : tie.Need-slice_bounds-spread-start-2
 part-spread-start-2 c = search rules
 
-part-spread-end-2 : tie.Need-slice-bounds-spread-end-2
+part-spread-end-2 : tie.Need-slice_bounds-spread-end-2
 part-spread-end-2 c = search rules
 
-slice-aggregate-spread : tie.Need-slice-aggregate-spread
+slice-aggregate-spread : tie.Need-slice_bounds-spread-end-3
 slice-aggregate-spread c =
-    let s = entry (marked c.before.before.before.before.before) in
-    groups_front s.args.graph.now s.pre.0.fits
+    let s = entry (marked c.before.before.before.before) in
+    groups_front s.args.graph.now s.requires.0.fits
 
 spread-requires : tie.Need-spread-requires
 unfolding part groups_in rev_in starts_in
@@ -107,15 +107,15 @@ spread-requires c κs =
     let s = entry m in
     let n = s.args.game.nodes in
     let groups = s.args.game.groups in
-    let l = s.pre.0 in
+    let l = s.requires.0 in
     let gl = groups_length s.args.graph.now l.fits in
     let nl = starts_nodes s.args.graph.now l.fits in
-    rw (placed m).places.ensures (
+    rw (placed m).places-rev.ensures (
       l.index,
       record {
         member_long = omega (arith, nl, l.member_long);
-        cnt_long = omega (arith, gl, (copied c).copy.auto.1.0, l.counts_long);
-        w_long = omega (arith, nl, m.mark.kept.1.0, ap length s.pre.1, length-replicate {A = ℕ} n 65535);
+        cnt_long = omega (arith, gl, (copied c).copy.auto.to, l.counts_long);
+        w_long = omega (arith, nl, m.mark.auto.to, ap length s.requires.1, length-replicate {A = ℕ} n 65535);
         q_long = omega (arith, nl, l.queue_long);
       },
       reach_start n s.args.queue.now s.args.tail l.number l.sifted _ (waits_are m)
@@ -123,24 +123,24 @@ spread-requires c κs =
           l.counts_long l.sized.counted (copied c).copy.ensures,
     )
 
-same_length : tie.Need-same-length
+same_length : tie.Need-shape_of-counts
 same_length c = search rules
 
-same-length-2 : tie.Need-same-length-2
+same-length-2 : tie.Need-shape_of-waits
 same-length-2 c = search rules
 
-same-length-3 : tie.Need-same-length-3
+same-length-3 : tie.Need-shape_of-queue
 same-length-3 c = search rules
 
 returns : tie.Need-returns
 unfolding part groups_in rev_in starts_in
 returns c =
-    let spread = c.before.before.before.before.before.before in
-    let m = marked (copied spread.before) in
+    let spread = c in
+    let m = marked (copied spread.before.before.before.before.before.before.before) in
     let s = entry m in
     reach_end _ _ _ _ (take s.args.tail s.args.queue.now) s.args.game.nodes
-    (starts_nodes s.args.graph.now s.pre.0.fits) (waits_are m)
-    (rw (placed m).places.ensures at spread.spread.ensures)
+    (starts_nodes s.args.graph.now s.requires.0.fits) (waits_are m)
+    (rw (placed m).places-rev.ensures at spread.spread.ensures)
 
 pub from_line_spec : {M : Type 1} → statement M
 from_line_spec =

@@ -9,50 +9,50 @@ use Rattle.game.proofs.Aiming.{offers_more}
 use Rattle.game.proofs.reach.offers.Statement.{statement}
 use Rattle.game.proofs.reach.offers.Tie as tie
 
-abbrev invariant-loop : tie.invariant-loop
-invariant-loop labels member bits₀ x₀ bits x =
+abbrev invariant-loop-x : tie.invariant-loop-x
+invariant-loop-x labels member bits₀ x₀ bits x =
     (x ≤ length labels) × (length labels ≤ length member) × (length labels ≤ length bits₀)
     × (length bits ≡ length bits₀) × Offers labels member x bits
 
-abbrev decreases-loop : tie.decreases-loop
-decreases-loop labels member bits₀ x₀ bits x = length labels - x
+abbrev decreases-loop-x : tie.decreases-loop-x
+decreases-loop-x labels member bits₀ x₀ bits x = length labels - x
 
-loop-holds : tie.Need-loop-init invariant-loop decreases-loop
+loop-holds : tie.Need-loop-x-init invariant-loop-x decreases-loop-x
 loop-holds c =
-    let room = c.before.before.before.requires in
+    let room = c.requires in
     (omega arith, room.0, room.1, refl, λ y h. absurd (omega (arith, h)))
 
-mul-offer : tie.Need-overflow-mul-offer invariant-loop decreases-loop
+mul-offer : tie.Need-offset_bounds-labels-x invariant-loop-x decreases-loop-x
 mul-offer c = omega arith
 
-shared-slice-read-offer : tie.Need-shared-slice-read-offer invariant-loop decreases-loop
+shared-slice-read-offer : tie.Need-bounds-labels-x invariant-loop-x decreases-loop-x
 shared-slice-read-offer c = omega arith
 
-mul-offer-2 : tie.Need-overflow-mul-offer-2 invariant-loop decreases-loop
+mul-offer-2 : tie.Need-offset_bounds-member-x invariant-loop-x decreases-loop-x
 mul-offer-2 c = omega arith
 
-shared-slice-read-offer-2 : tie.Need-shared-slice-read-offer-2 invariant-loop decreases-loop
+shared-slice-read-offer-2 : tie.Need-bounds-member-x invariant-loop-x decreases-loop-x
 shared-slice-read-offer-2 c = omega arith
 
-offer-requires : tie.Need-offer-requires invariant-loop decreases-loop
+offer-requires : tie.Need-offer-requires invariant-loop-x decreases-loop-x
 offer-requires c κs = search rules
 
-mul-bits : tie.Need-overflow-mul-bits invariant-loop decreases-loop
+mul-bits : tie.Need-offset_bounds-bits-x invariant-loop-x decreases-loop-x
 mul-bits c = omega arith
 
-slice-write-bits : tie.Need-slice-write-bits invariant-loop decreases-loop
+slice-write-bits : tie.Need-bounds-bits-x invariant-loop-x decreases-loop-x
 slice-write-bits c = omega arith
 
-add-x : tie.Need-overflow-add-x invariant-loop decreases-loop
+add-x : tie.Need-overflow_add-x invariant-loop-x decreases-loop-x
 add-x c = omega arith
 
-loop-less : tie.Need-loop-smaller invariant-loop decreases-loop
+loop-less : tie.Need-loop-x-smaller invariant-loop-x decreases-loop-x
 loop-less c = omega arith
 
-loop-again : tie.Need-loop-preserved invariant-loop decreases-loop
+loop-again : tie.Need-loop-x-preserved invariant-loop-x decreases-loop-x
 loop-again c =
-    let l = c.before.before.before.before.loop in
-    let a = c.before.before.before.before.before.before.before.before.args in (
+    let l = c.loop-x in
+    let a = c.args in (
       omega arith,
       l.invariant.1,
       l.invariant.2,
@@ -60,18 +60,18 @@ loop-again c =
       offers_more a.labels.now a.member.now l.bits l.x _ l.invariant.4 (omega arith) c.offer.ensures,
     )
 
-same_length : tie.Need-same-length invariant-loop decreases-loop
-same_length c = c.before.loop.invariant.3
+same_length : tie.Need-shape_of-bits invariant-loop-x decreases-loop-x
+same_length c = c.loop-x.invariant.3
 
-returns : tie.Need-returns invariant-loop decreases-loop
-returns c = λ y h. c.before.loop.invariant.4 y (omega (arith, h, c.loop-test.false))
+returns : tie.Need-returns invariant-loop-x decreases-loop-x
+returns c = λ y h. c.loop-x.invariant.4 y (omega (arith, h, c.loop-x-test.false))
 
 pub offers_spec : {M : Type 1} → statement M
 offers_spec =
     tie.close
     (tie.spec
-    invariant-loop
-    decreases-loop
+    invariant-loop-x
+    decreases-loop-x
     loop-holds
     mul-offer
     shared-slice-read-offer

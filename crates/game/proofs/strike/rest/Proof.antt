@@ -8,63 +8,63 @@ use Rattle.game.proofs.Cutting.{at_is, Resting, rest_start, rest_few, rest_in, r
 use Rattle.game.proofs.strike.rest.Statement.{statement}
 use Rattle.game.proofs.strike.rest.Tie as tie
 
-abbrev invariant-loop : tie.invariant-loop
-invariant-loop list n out₀ x₀ k₀ count₀ out x k count = Resting list n out₀ out x k count
+abbrev invariant-loop-x : tie.invariant-loop-x
+invariant-loop-x list n out₀ x₀ k₀ count₀ out x k count = Resting list n out₀ out x k count
 
-abbrev decreases-loop : tie.decreases-loop
-decreases-loop list n out₀ x₀ k₀ count₀ out x k count = n - x
+abbrev decreases-loop-x : tie.decreases-loop-x
+decreases-loop-x list n out₀ x₀ k₀ count₀ out x k count = n - x
 
-loop-holds : tie.Need-loop-init invariant-loop decreases-loop
-loop-holds c = rest_start _ _ _ c.before.before.requires.1.1
+loop-holds : tie.Need-loop-x-init invariant-loop-x decreases-loop-x
+loop-holds c = rest_start _ _ _ c.requires.1.1
 
-is-at-requires : tie.Need-is-at-requires invariant-loop decreases-loop
+is-at-requires : tie.Need-is_at-requires invariant-loop-x decreases-loop-x
 is-at-requires c κs = _
 
-add-k : tie.Need-overflow-add-k invariant-loop decreases-loop
-add-k c = omega (arith, rest_few c.before.before.before.loop.invariant)
+add-k : tie.Need-overflow_add-k invariant-loop-x decreases-loop-x
+add-k c = omega (arith, rest_few c.loop-x.invariant)
 
-cast-out : tie.Need-overflow-cast-out invariant-loop decreases-loop
+cast-out : tie.Need-overflow_cast-out invariant-loop-x decreases-loop-x
 cast-out c = omega arith
 
-mul-out : tie.Need-overflow-mul-out invariant-loop decreases-loop
-mul-out c = omega (arith, rest_few c.before.before.before.loop.invariant)
+mul-out : tie.Need-offset_bounds-out-count invariant-loop-x decreases-loop-x
+mul-out c = omega (arith, rest_few c.loop-x.invariant)
 
-slice-write-out : tie.Need-slice-write-out invariant-loop decreases-loop
-slice-write-out c = omega (arith, rest_few c.before.before.before.loop.invariant)
+slice-write-out : tie.Need-bounds-out-count invariant-loop-x decreases-loop-x
+slice-write-out c = omega (arith, rest_few c.loop-x.invariant)
 
-add-count : tie.Need-overflow-add-count invariant-loop decreases-loop
-add-count c = omega (arith, rest_few c.before.before.before.loop.invariant)
+add-count : tie.Need-overflow_add-count invariant-loop-x decreases-loop-x
+add-count c = omega (arith, rest_few c.loop-x.invariant)
 
-add-x : tie.Need-overflow-add-x invariant-loop decreases-loop
+add-x : tie.Need-overflow_add-x invariant-loop-x decreases-loop-x
 add-x c = omega arith
 
-loop-less : tie.Need-loop-smaller invariant-loop decreases-loop
+loop-less : tie.Need-loop-x-smaller invariant-loop-x decreases-loop-x
 loop-less c = omega arith
 
-loop-again : tie.Need-loop-preserved invariant-loop decreases-loop
+loop-again : tie.Need-loop-x-preserved invariant-loop-x decreases-loop-x
 loop-again c =
-    let t = c.before.before in
-    let inv = t.before.loop.invariant in
-    let more = t.loop-test.true in
-    let sifted = t.before.before.before.before.requires.0 in
-    let is = sym (c.before.is_at.ensures ∙ at_is _ _ _ _ sifted more inv.place) in
+    let t = c in
+    let inv = t.loop-x.invariant in
+    let more = t.loop-x-test.true in
+    let sifted = t.requires.0 in
+    let is = sym (c.is_at.ensures ∙ at_is _ _ _ _ sifted more inv.place) in
     ⊎_elim
-    (λ w. rw (w.1, w.2, w.3) (rest_in inv more (is ∙ w.0.taken)))
-    (λ w. rw (w.1, w.2, w.3) (rest_out inv more (is ∙ w.0.left)))
-    c.if1.branch
+    (λ w. rw (w.out-is, w.k-is, w.count-is) (rest_in inv more (is ∙ w.if-is_at.true)))
+    (λ w. rw (w.out-is, w.k-is, w.count-is) (rest_out inv more (is ∙ w.if-is_at.false)))
+    c.if-is_at.branch-raw
 
-same_length : tie.Need-same-length invariant-loop decreases-loop
-same_length c = c.before.loop.invariant.size
+same_length : tie.Need-shape_of-out invariant-loop-x decreases-loop-x
+same_length c = c.loop-x.invariant.size
 
-returns : tie.Need-returns invariant-loop decreases-loop
-returns c = rest_end c.before.loop.invariant c.loop-test.false
+returns : tie.Need-returns invariant-loop-x decreases-loop-x
+returns c = rest_end c.loop-x.invariant c.loop-x-test.false
 
 pub rest_spec : {M : Type 1} → statement M
 rest_spec =
     tie.close
     (tie.spec
-    invariant-loop
-    decreases-loop
+    invariant-loop-x
+    decreases-loop-x
     loop-holds
     is-at-requires
     add-k

@@ -12,97 +12,97 @@ use Rattle.game.proofs.Cutting.{sieved_in, sieved_end}
 use Rattle.game.proofs.worklist.keep.Statement.{statement}
 use Rattle.game.proofs.worklist.keep.Tie as tie
 
-abbrev invariant-loop : tie.invariant-loop
-invariant-loop labels member list₀ count kept₀ k₀ list kept k = Sieved (remains labels member) count list₀ list kept k
+abbrev invariant-loop-k : tie.invariant-loop-k
+invariant-loop-k labels member list₀ count kept₀ k₀ list kept k = Sieved (remains labels member) count list₀ list kept k
 
-abbrev decreases-loop : tie.decreases-loop
-decreases-loop labels member list₀ count kept₀ k₀ list kept k = count - k
+abbrev decreases-loop-k : tie.decreases-loop-k
+decreases-loop-k labels member list₀ count kept₀ k₀ list kept k = count - k
 
-loop-holds : tie.Need-loop-init invariant-loop decreases-loop
-loop-holds c = sieve_start _ _ _ c.before.before.before.requires.0
+loop-holds : tie.Need-loop-k-init invariant-loop-k decreases-loop-k
+loop-holds c = sieve_start _ _ _ c.requires.0
 
-mul-node : tie.Need-overflow-mul-node invariant-loop decreases-loop
+mul-node : tie.Need-offset_bounds-list-k invariant-loop-k decreases-loop-k
 mul-node c = omega arith
 
-slice-read-node : tie.Need-slice-read-node invariant-loop decreases-loop
+slice-read-node : tie.Need-bounds-list-k invariant-loop-k decreases-loop-k
 slice-read-node c = omega arith
 
 -- the node read is one that has its numbers
-node_in : (c : tie.In-loop invariant-loop decreases-loop)
-    → let s = c.before.before.before.before.before.args in
-    let x = get_or c.before.loop.list c.before.loop.k 0 in
+node_in : (c : tie.In-loop-k invariant-loop-k decreases-loop-k)
+    → let s = c.args in
+    let x = get_or c.loop-k.list c.loop-k.k 0 in
     (x < length s.labels.now) × (x < length s.member.now)
 node_in c =
-    c.before.before.before.before.before.requires.1 _ (sieved_in c.before.loop.invariant c.loop-test.true)
+    c.requires.1 _ (sieved_in c.loop-k.invariant c.loop-k-test.true)
 
-cast-x : tie.Need-overflow-cast-x invariant-loop decreases-loop
-cast-x c = omega (arith, c.slice-known2.given c.before.before.loop.k)
+cast-x : tie.Need-overflow_cast-x invariant-loop-k decreases-loop-k
+cast-x c = omega (arith, c.slice_known-in-loop-k-1.given c.loop-k.k)
 
-mul-if1 : tie.Need-overflow-mul-if1 invariant-loop decreases-loop
-mul-if1 c = omega (arith, c.slice-known2.given c.before.before.loop.k)
+mul-if1 : tie.Need-offset_bounds-member-x invariant-loop-k decreases-loop-k
+mul-if1 c = omega (arith, c.slice_known-in-loop-k-1.given c.loop-k.k)
 
-shared-slice-read-if1 : tie.Need-shared-slice-read-if1 invariant-loop decreases-loop
+shared-slice-read-if1 : tie.Need-bounds-member-x invariant-loop-k decreases-loop-k
 shared-slice-read-if1 c = (node_in c.before.before).1
 
-mul-bit-at : tie.Need-overflow-mul-bit-at invariant-loop decreases-loop
-mul-bit-at c = omega (arith, c.before.slice-known2.given c.before.before.before.loop.k)
+mul-bit-at : tie.Need-offset_bounds-labels-x invariant-loop-k decreases-loop-k
+mul-bit-at c = omega (arith, c.slice_known-in-loop-k-1.given c.loop-k.k)
 
-shared-slice-read-bit-at : tie.Need-shared-slice-read-bit-at invariant-loop decreases-loop
+shared-slice-read-bit-at : tie.Need-bounds-labels-x invariant-loop-k decreases-loop-k
 shared-slice-read-bit-at c = (node_in c.before.before.before).0
 
-cast-bit-at : tie.Need-overflow-cast-bit-at invariant-loop decreases-loop
+cast-bit-at : tie.Need-overflow_cast-labels invariant-loop-k decreases-loop-k
 cast-bit-at c =
-    let l = c.before.before.before.before.loop in
-    omega (arith, c.shared-slice-known4.given (get_or l.list l.k 0))
+    let l = c.loop-k in
+    omega (arith, c.shared_slice_known-in-loop-k-2-1.given (get_or l.list l.k 0))
 
-bit-at-requires : tie.Need-bit-at-requires invariant-loop decreases-loop
+bit-at-requires : tie.Need-bit_at-requires invariant-loop-k decreases-loop-k
 bit-at-requires c κs = search rules
 
-sub-list : tie.Need-overflow-sub-list invariant-loop decreases-loop
+sub-list : tie.Need-overflow_sub-list invariant-loop-k decreases-loop-k
 sub-list c = omega arith
 
-sub-list-2 : tie.Need-overflow-sub-list-2 invariant-loop decreases-loop
+sub-list-2 : tie.Need-overflow_sub-list-then-member-x invariant-loop-k decreases-loop-k
 sub-list-2 c = omega arith
 
-mul-list : tie.Need-overflow-mul-list invariant-loop decreases-loop
+mul-list : tie.Need-offset_bounds-list-k-then-member-x invariant-loop-k decreases-loop-k
 mul-list c = omega arith
 
-slice-write-list : tie.Need-slice-write-list invariant-loop decreases-loop
+slice-write-list : tie.Need-bounds-list-k-then-member-x invariant-loop-k decreases-loop-k
 slice-write-list c = omega arith
 
-sub-kept : tie.Need-overflow-sub-kept invariant-loop decreases-loop
+sub-kept : tie.Need-overflow_sub-kept invariant-loop-k decreases-loop-k
 sub-kept c = omega arith
 
-add-k : tie.Need-overflow-add-k invariant-loop decreases-loop
+add-k : tie.Need-overflow_add-k invariant-loop-k decreases-loop-k
 add-k c = omega arith
 
-loop-less : tie.Need-loop-smaller invariant-loop decreases-loop
+loop-less : tie.Need-loop-k-smaller invariant-loop-k decreases-loop-k
 loop-less c = omega arith
 
-loop-again : tie.Need-loop-preserved invariant-loop decreases-loop
+loop-again : tie.Need-loop-k-preserved invariant-loop-k decreases-loop-k
 unfolding remains over_at
 loop-again c =
-    let t = c.before.before.before.before.before in
-    let inv = t.before.loop.invariant in
-    let more = t.loop-test.true in
-    let is = c.before.bit_at.ensures in
+    let t = c in
+    let inv = t.loop-k.invariant in
+    let more = t.loop-k-test.true in
+    let is = c.bit_at.ensures in
     ⊎_elim
-    (λ w. rw (w.1, w.2) (sieve_yes inv more (rw (← is) w.0.taken)))
-    (λ w. rw (w.1, w.2) (sieve_no inv more (rw (← is) w.0.left)))
-    c.if1.branch
+    (λ w. rw (w.list-is, w.kept-is) (sieve_yes inv more (rw (← is) w.if-member-x.true)))
+    (λ w. rw (w.list-is, w.kept-is) (sieve_no inv more (rw (← is) w.if-member-x.false)))
+    c.if-member-x.branch-raw
 
-same_length : tie.Need-same-length invariant-loop decreases-loop
-same_length c = c.before.loop.invariant.size
+same_length : tie.Need-shape_of-list invariant-loop-k decreases-loop-k
+same_length c = c.loop-k.invariant.size
 
-returns : tie.Need-returns invariant-loop decreases-loop
-returns c = sieved_end c.before.loop.invariant c.loop-test.false
+returns : tie.Need-returns invariant-loop-k decreases-loop-k
+returns c = sieved_end c.loop-k.invariant c.loop-k-test.false
 
 pub keep_spec : {M : Type 1} → statement M
 keep_spec =
     tie.close
     (tie.spec
-    invariant-loop
-    decreases-loop
+    invariant-loop-k
+    decreases-loop-k
     loop-holds
     mul-node
     slice-read-node

@@ -34,202 +34,202 @@ rooms : (s : tie.Start)
 rooms s = kill_rooms _ _ _ _ _ s.requires.0 s.requires.1.4 s.requires.1.5
 
 -- the function's entry
-abbrev fallen : tie.Else1 → tie.Start
+abbrev fallen : tie.Else-dead-g-gt0 → tie.Start
 fallen c = c.before.before.before.before.before.before.before
 
-abbrev counted : tie.Else2 → tie.Start
-counted c = fallen c.before.before.before.before
+abbrev counted : tie.Else-left-member → tie.Start
+counted c = c.before.before.before.before.before.before.before.before.before.before.before
 
 -- the group was not dead, and its node has no other group and is marked
-not_dead : (c : tie.Else1) → get_or (fallen c).args.dead.now (fallen c).args.group 0 ≡ 0
-not_dead c = omega (arith, c.if1.false)
+not_dead : (c : tie.Else-dead-g-gt0) → get_or (fallen c).args.dead.now (fallen c).args.group 0 ≡ 0
+not_dead c = omega (arith, c.if-dead-g-gt0.false)
 
-last_group : (c : tie.Else2)
+last_group : (c : tie.Else-left-member)
     → (get_or (counted c).args.live.now (node (counted c)) 0 - 1 ≡ 0)
     × (get_or (counted c).args.member.now (node (counted c)) 0 < 1)
 last_group c =
     let s = counted c in
     let left = get_or s.args.live.now (node s) 0 - 1 in
     let out = get_or s.args.member.now (node s) 0 in
-    let r = or_neither (ltb 0 left) (ltb 0 out) c.if2.false in
+    let r = or_neither (ltb 0 left) (ltb 0 out) c.if-left-member.false in
     (omega (arith, ltb-false 0 left r.0), omega (arith, ltb-false 0 out r.1))
 
 -- the bit read says whether a run is over at the node
-is_over : (c : tie.After-bit-at)
+is_over : (c : tie.After-bit_at)
     → let s = counted c.before.before in
     c.bit_at.result ≡ over_at (labels_in s.args.graph.now s.args.game.nodes) (node s)
 is_over c =
     let s = counted c.before.before in
-    c.bit_at.ensures ∙ label_over _ _ _ _ _ s.pre.0 (node s) (places_in s).1
+    c.bit_at.ensures ∙ label_over _ _ _ _ _ s.requires.0 (node s) (places_in s).1
 
-mul-if1 : tie.Need-overflow-mul-if1
+mul-if1 : tie.Need-offset_bounds-dead-g
 mul-if1 c = search rules
 
-slice-read-if1 : tie.Need-slice-read-if1
+slice-read-if1 : tie.Need-bounds-dead-g
 slice-read-if1 c = (rooms c.before.before.before.before.before.before).0
 
-returns : tie.Need-returns
+returns : tie.Need-returns-then-dead-g-gt0
 returns c =
-    let s = c.before.before.before.before.before.before.before in (
-      λ ok after xs first d fails. kill_dead _ _ _ _ _ s.requires.0 d fails c.if1.true,
+    let s = c in (
+      λ ok after xs first d fails. kill_dead _ _ _ _ _ s.requires.0 d fails c.if-dead-g-gt0.true,
       grown_none _ _,
     )
 
-mul-dead : tie.Need-overflow-mul-dead
+mul-dead : tie.Need-offset_bounds-dead-g-2
 mul-dead c = search rules
 
-slice-write-dead : tie.Need-slice-write-dead
+slice-write-dead : tie.Need-bounds-dead-g-2
 slice-write-dead c = (rooms (fallen c)).0
 
-mul-node : tie.Need-overflow-mul-node
+mul-node : tie.Need-offset_bounds-graph-g
 mul-node c = search rules
 
-shared-slice-read-node : tie.Need-shared-slice-read-node
+shared-slice-read-node : tie.Need-bounds-graph-g
 shared-slice-read-node c =
     let s = fallen c.before in
-    omega (arith, (places_in s).0, groups_end s.args.graph.now s.pre.0.fits)
+    omega (arith, (places_in s).0, groups_end s.args.graph.now s.requires.0.fits)
 
 -- numbers of the array fit
-node_fits : (c : tie.After-shared-slice-known2) → node (fallen c.before) ≤ 65535
-node_fits c = omega (arith, c.shared-slice-known2.given (fallen c.before).args.group)
+node_fits : (c : tie.After-shared_slice_known-2-1) → node (fallen c.before) ≤ 65535
+node_fits c = omega (arith, c.shared_slice_known-2-1.given (fallen c.before).args.group)
 
-cast_f : tie.Need-overflow-cast-f
+cast_f : tie.Need-overflow_cast-f
 cast_f c = omega (arith, node_fits c)
 
-mul_left : tie.Need-overflow-mul-left
+mul_left : tie.Need-offset_bounds-live-f
 mul_left c = omega (arith, node_fits c)
 
-slice-read-left : tie.Need-slice-read-left
+slice-read-left : tie.Need-bounds-live-f
 slice-read-left c = (rooms (fallen c.before.before)).1
 
-sub-left : tie.Need-overflow-sub-left
+sub-left : tie.Need-overflow_sub-left
 sub-left c =
-    let t = c.before.before in
-    let s = fallen t in
-    kill-some _ _ _ _ _ s.pre.0 s.pre.1.4 s.pre.1.5 (not_dead t)
+    let t = c in
+    let s = fallen t.before.before in
+    kill-some _ _ _ _ _ s.requires.0 s.requires.1.4 s.requires.1.5 (not_dead t.before.before)
 
-mul-live : tie.Need-overflow-mul-live
+mul-live : tie.Need-offset_bounds-live-f-2
 mul-live c = omega (arith, node_fits c.before)
 
-slice-write-live : tie.Need-slice-write-live
+slice-write-live : tie.Need-bounds-live-f-2
 slice-write-live c = (rooms (fallen c.before.before)).1
 
-mul-if2 : tie.Need-overflow-mul-if2
+mul-if2 : tie.Need-offset_bounds-member-f
 mul-if2 c = omega (arith, node_fits c.before)
 
-slice-read-if2 : tie.Need-slice-read-if2
+slice-read-if2 : tie.Need-bounds-member-f
 slice-read-if2 c = (rooms (fallen c.before.before.before)).2
 
-same_length : tie.Need-same-length
+same_length : tie.Need-shape_of-live-then-left-member
 same_length c = search rules
 
-same-length-2 : tie.Need-same-length-2
+same-length-2 : tie.Need-shape_of-dead-then-left-member
 same-length-2 c = search rules
 
-returns-2 : tie.Need-returns-2
+returns-2 : tie.Need-returns-then-left-member
 returns-2 c =
-    let t = c.before.before.before.before in
-    let s = fallen t in
+    let t = c in
+    let s = fallen t.before.before.before.before in
     let left = get_or s.args.live.now (node s) 0 - 1 in
     let out = get_or s.args.member.now (node s) 0 in (
       λ ok after xs first d fails.
           ⊎_elim
-          (λ l. kill-more _ _ _ _ _ s.pre.0 d fails (not_dead t) l)
+          (λ l. kill-more _ _ _ _ _ s.requires.0 d fails (not_dead t.before.before.before.before) l)
           (λ l.
-          kill-unmarked _ _ _ _ _ s.pre.0 d fails (not_dead t) (omega arith)
+          kill-unmarked _ _ _ _ _ s.requires.0 d fails (not_dead t.before.before.before.before) (omega arith)
           (⊎_elim
           (λ h. absurd (let k = ltb-true 0 left h in omega arith))
           (λ h. ltb-true 0 out h)
-          (or_cases (ltb 0 left) (ltb 0 out) c.if2.true)))
+          (or_cases (ltb 0 left) (ltb 0 out) c.if-left-member.true)))
           (lt_or_le 0 left),
       grown_none _ _,
     )
 
-sub-labels : tie.Need-overflow-sub-labels
+sub-labels : tie.Need-overflow_sub-labels
 sub-labels c = search rules
 
-add-bit-at : tie.Need-overflow-add-bit-at
+add-bit-at : tie.Need-overflow_add-labels
 add-bit-at c =
     let s = counted c in
-    omega (arith, (places_in s).1, labels_end s.args.graph.now s.pre.0.fits, s.good.0)
+    omega (arith, (places_in s).1, labels_end s.args.graph.now s.requires.0.fits, s.well_formed.0)
 
-mul-bit-at : tie.Need-overflow-mul-bit-at
+mul-bit-at : tie.Need-offset_bounds-graph-labels
 mul-bit-at c =
     let s = counted c in
-    omega (arith, (places_in s).1, labels_end s.args.graph.now s.pre.0.fits, s.good.0)
+    omega (arith, (places_in s).1, labels_end s.args.graph.now s.requires.0.fits, s.well_formed.0)
 
-shared-slice-read-bit-at : tie.Need-shared-slice-read-bit-at
+shared-slice-read-bit-at : tie.Need-bounds-graph-labels
 shared-slice-read-bit-at c =
     let s = counted c.before in
-    omega (arith, (places_in s).1, labels_end s.args.graph.now s.pre.0.fits)
+    omega (arith, (places_in s).1, labels_end s.args.graph.now s.requires.0.fits)
 
-cast-bit-at : tie.Need-overflow-cast-bit-at
+cast-bit-at : tie.Need-overflow_cast-graph
 cast-bit-at c =
     let s = counted c.before in
-    omega (arith, c.shared-slice-known3.given (length s.args.graph.now - 1024 + node s))
+    omega (arith, c.shared_slice_known-3-1.given (length s.args.graph.now - 1024 + node s))
 
-bit-at-requires : tie.Need-bit-at-requires
+bit-at-requires : tie.Need-bit_at-requires
 bit-at-requires c κs = search rules
 
-mul-member : tie.Need-overflow-mul-member
+mul-member : tie.Need-offset_bounds-member-f-then-bit_at
 mul-member c = omega (arith, node_fits c.before.before.before.before.before.before)
 
-slice-write-member : tie.Need-slice-write-member
+slice-write-member : tie.Need-bounds-member-f-then-bit_at
 slice-write-member c = (rooms (counted c.before.before.before)).2
 
-same-length-3 : tie.Need-same-length-3
+same-length-3 : tie.Need-shape_of-member-then-bit_at
 same-length-3 c = search rules
 
-same-length-4 : tie.Need-same-length-4
+same-length-4 : tie.Need-shape_of-live-then-bit_at
 same-length-4 c = search rules
 
-same-length-5 : tie.Need-same-length-5
+same-length-5 : tie.Need-shape_of-dead-then-bit_at
 same-length-5 c = search rules
 
-returns-3 : tie.Need-returns-3
+returns-3 : tie.Need-returns-then-bit_at
 returns-3 c =
-    let t = c.before.before.before in
-    let s = counted t in (
+    let t = c in
+    let s = counted t.before.before.before in (
       λ ok after xs first d fails.
-          kill-over _ _ _ _ _ s.pre.0 d fails (not_dead t.before.before.before.before) (last_group t).0
-          (sym (is_over c.before) ∙ c.if3.true),
+          kill-over _ _ _ _ _ s.requires.0 d fails (not_dead t.before.before.before.before.before.before.before) (last_group t.before.before.before).0
+          (sym (is_over c.before) ∙ c.if-bit_at.true),
       grown_none _ _,
     )
 
 push-requires : tie.Need-push-requires
 push-requires c κs =
-    let t = c.before.before.before.before.before in
-    let s = counted t in
-    let dead = not_dead t.before.before.before.before in
-    let last = last_group t in (
-      (push-room _ _ _ _ _ s.pre.0 s.pre.1.4 s.pre.1.5 dead last.0 last.1, (rooms s).2),
-      push-new _ _ _ _ _ s.pre.0 s.pre.1.4 s.pre.1.5 dead last.0 last.1,
+    let t = c in
+    let s = counted t.before.before.before.before.before in
+    let dead = not_dead t.before.before.before.before.before.before.before.before.before in
+    let last = last_group t.before.before.before.before.before in (
+      (push-room _ _ _ _ _ s.requires.0 s.requires.1.4 s.requires.1.5 dead last.0 last.1, (rooms s).2),
+      push-new _ _ _ _ _ s.requires.0 s.requires.1.4 s.requires.1.5 dead last.0 last.1,
     )
 
-same-length-6 : tie.Need-same-length-6
+same-length-6 : tie.Need-shape_of-member
 same-length-6 c = search rules
 
-same-length-7 : tie.Need-same-length-7
+same-length-7 : tie.Need-shape_of-live
 same-length-7 c = search rules
 
-same-length-8 : tie.Need-same-length-8
+same-length-8 : tie.Need-shape_of-dead
 same-length-8 c = search rules
 
-same-length-9 : tie.Need-same-length-9
+same-length-9 : tie.Need-shape_of-list
 same-length-9 c = search rules
 
-returns-4 : tie.Need-returns-4
+returns-4 : tie.Need-returns
 returns-4 c =
-    let p = c.before.before.before.before in
-    let e = p.before.before.before in
-    let t = e.before.before.before in
-    let s = counted t in
-    let last = last_group t in
+    let p = c in
+    let e = p in
+    let t = e in
+    let s = counted t.before.before.before.before.before.before.before.before.before.before in
+    let last = last_group t.before.before.before.before.before.before.before.before.before.before in
     let done = p.push.ensures in
     rw (done.0, done.1.0, done.1.1) (
       λ ok after xs first d fails.
-          kill-push _ _ _ _ _ s.pre.0 d fails (not_dead t.before.before.before.before) last.0 last.1
-          (sym (is_over e.before) ∙ e.if3.false),
+          kill-push _ _ _ _ _ s.requires.0 d fails (not_dead t.before.before.before.before.before.before.before.before.before.before.before.before.before.before) last.0 last.1
+          (sym (is_over e.before.before.before.before.before.before.before.before) ∙ e.if-bit_at.false),
       grown_one _ _ _,
     )
 

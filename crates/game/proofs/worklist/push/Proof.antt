@@ -4,25 +4,25 @@ use borrow.Author.Rules.{rules}
 use Rattle.game.proofs.worklist.push.Statement.{statement}
 use Rattle.game.proofs.worklist.push.Tie as tie
 
-mul-list : tie.Need-overflow-mul-list
+mul-list : tie.Need-offset_bounds-list-tail
 mul-list c = search rules
 
-slice-write-list : tie.Need-slice-write-list
+slice-write-list : tie.Need-bounds-list-tail
 slice-write-list c = search rules
 
-mul-member : tie.Need-overflow-mul-member
+mul-member : tie.Need-offset_bounds-member-node
 mul-member c = search rules
 
-slice-write-member : tie.Need-slice-write-member
+slice-write-member : tie.Need-bounds-member-node
 slice-write-member c = search rules
 
-add-result : tie.Need-overflow-add-result
+add-result : tie.Need-overflow_add-result
 add-result c = search rules
 
-same_length : tie.Need-same-length
+same_length : tie.Need-shape_of-member
 same_length c = search rules
 
-same-length-2 : tie.Need-same-length-2
+same-length-2 : tie.Need-shape_of-list
 same-length-2 c = search rules
 
 returns : tie.Need-returns

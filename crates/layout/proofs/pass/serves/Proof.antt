@@ -15,10 +15,10 @@ rest_is zero h = refl
 rest_is (suc zero) h = refl
 rest_is (suc (suc r)) h = absurd (omega arith)
 
-shr-result : tie.Need-overflow-shr-result
+shr-result : tie.Need-overflow_shr-result
 shr-result c = search rules
 
-cast-result : tie.Need-overflow-cast-result
+cast-result : tie.Need-overflow_cast-result-2
 cast-result c = search rules
 
 returns : tie.Need-returns
