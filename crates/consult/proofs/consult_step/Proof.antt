@@ -9,85 +9,85 @@ use Rattle.consult.proofs.Stepping.{step_refused, step_past, next-fine, step-los
 use Rattle.consult.proofs.consult_step.Statement.{statement}
 use Rattle.consult.proofs.consult_step.Tie as tie
 
-consult-plant-requires : tie.Need-consult-plant-requires
+consult-plant-requires : tie.Need-consult_plant-here-requires
 consult-plant-requires c κs = search rules
 
-refused-requires : tie.Need-refused-requires
+refused-requires : tie.Need-refused-next-requires
 refused-requires c κs = search rules
 
-returns : tie.Need-returns
+returns : tie.Need-returns-then-here-ne0
 returns c =
-    let told = c.before.before.before in
-    let a = told.before.before.before.args in (
-      step_refused a.plant.now a.book.now a.state a.goal a.end told.consult-plant.ensures.0
-          c.before.if1.true c.refused.ensures,
+    let told = c in
+    let a = told.args in (
+      step_refused a.plant.now a.book.now a.state a.goal a.end told.consult_plant-here.ensures.0
+          c.if-here-ne0.true c.refused-next.ensures,
       of_step,
     )
 
 number-requires : tie.Need-number-requires
 number-requires c κs = search rules
 
-cast-if2 : tie.Need-overflow-cast-if2
+cast-if2 : tie.Need-overflow_cast-number
 cast-if2 c = search rules
 
-refused-requires-2 : tie.Need-refused-requires-2
+refused-requires-2 : tie.Need-refused-next-requires-then-number-end
 refused-requires-2 c κs = search rules
 
-returns-2 : tie.Need-returns-2
+returns-2 : tie.Need-returns-then-number-end
 unfolding book_states
 returns-2 c =
-    let known = c.before.before in
-    let told = known.before.before.before in
-    let a = told.before.before.before.args in (
-      step_past a.plant.now a.book.now a.state a.goal a.end told.consult-plant.ensures.0
-          known.before.if1.false (omega (arith, known.number.ensures, c.before.if2.true)) c.refused2.ensures,
+    let known = c in
+    let told = known in
+    let a = told.args in (
+      step_past a.plant.now a.book.now a.state a.goal a.end told.consult_plant-here.ensures.0
+          known.if-here-ne0.false (omega (arith, known.number.ensures, c.if-number-end.true)) c.refused-next-then-number-end.ensures,
       of_step,
     )
 
-cast-answer : tie.Need-overflow-cast-answer
+cast-answer : tie.Need-overflow_cast-here
 cast-answer c = search rules
 
 -- past both tests the state that followed is one of the book's
-state_low : (c : tie.Else2)
-    → let a = c.before.before.before.before.before.before.before.args in a.end < book_states a.book.now
+state_low : (c : tie.Else-number-end)
+    → let a = c.args in a.end < book_states a.book.now
 unfolding book_states
-state_low c = omega (arith, c.before.number.ensures, c.if2.false)
+state_low c = omega (arith, c.number.ensures, c.if-number-end.false)
 
-answer-requires : tie.Need-answer-requires
+answer-requires : tie.Need-answer-next-requires
 answer-requires c κs =
-    let past = c.before in
-    let told = past.before.before.before.before in
-    let a = told.before.before.before.args in
-    next-fine a.plant.now a.book.now a.state a.goal a.end told.consult-plant.ensures.0
-    past.before.before.if1.false (state_low past)
+    let past = c in
+    let told = past in
+    let a = told.args in
+    next-fine a.plant.now a.book.now a.state a.goal a.end told.consult_plant-here.ensures.0
+    past.if-here-ne0.false (state_low past.before)
 
-returns-3 : tie.Need-returns-3
+returns-3 : tie.Need-returns-then-here
 returns-3 c =
-    let past = c.before.before.before in
-    let told = past.before.before.before.before in
-    let a = told.before.before.before.args in (
-      step-lost a.plant.now a.book.now a.state a.goal a.end told.consult-plant.ensures.0
-          past.before.before.if1.false (state_low past) c.before.answer.ensures c.if3.true,
+    let past = c in
+    let told = past in
+    let a = told.args in (
+      step-lost a.plant.now a.book.now a.state a.goal a.end told.consult_plant-here.ensures.0
+          past.if-here-ne0.false (state_low past.before.before.before) c.answer-next.ensures c.if-here.true,
       of_step,
     )
 
-leads-requires : tie.Need-leads-requires
+leads-requires : tie.Need-leads-leads-requires
 leads-requires c κs =
-    let past = c.before.before.before in
-    let told = past.before.before.before.before in
-    let a = told.before.before.before.args in
-    step_given a.plant.now a.book.now a.state a.goal a.end told.consult-plant.ensures.0
-    past.before.before.if1.false (state_low past)
+    let past = c in
+    let told = past in
+    let a = told.args in
+    step_given a.plant.now a.book.now a.state a.goal a.end told.consult_plant-here.ensures.0
+    past.if-here-ne0.false (state_low past.before.before.before)
 
-returns-4 : tie.Need-returns-4
+returns-4 : tie.Need-returns
 returns-4 c =
-    let kept = c.before in
-    let past = kept.before.before.before in
-    let told = past.before.before.before.before in
-    let a = told.before.before.before.args in (
-      step_kept a.plant.now a.book.now a.state a.goal a.end told.consult-plant.ensures.0
-          past.before.before.if1.false (state_low past) kept.before.answer.ensures kept.if3.false
-          c.leads.ensures,
+    let kept = c in
+    let past = kept in
+    let told = past in
+    let a = told.args in (
+      step_kept a.plant.now a.book.now a.state a.goal a.end told.consult_plant-here.ensures.0
+          past.if-here-ne0.false (state_low past.before.before.before.before) kept.answer-next.ensures kept.if-here.false
+          c.leads-leads.ensures,
       of_step,
     )
 

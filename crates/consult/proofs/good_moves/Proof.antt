@@ -12,35 +12,35 @@ use Rattle.consult.proofs.Consulted.{moves_given}
 use Rattle.consult.proofs.good_moves.Statement.{statement}
 use Rattle.consult.proofs.good_moves.Tie as tie
 
-moves-requires : tie.Need-moves-requires
+moves-requires : tie.Need-moves-fault-requires
 moves-requires c κs = search rules
 
-returns : tie.Need-returns
-returns c = (record { number = c.before.moves.ensures; mask = rw (ne_eqb _ _ c.if1.true) }, of_moves)
+returns : tie.Need-returns-then-fault-ne0
+returns c = (record { number = c.moves-fault.ensures; mask = rw (ne_eqb _ _ c.if-fault-ne0.true) }, of_moves)
 
 -- past the test, the call is accepted
-accepted_call : (c : tie.Else1)
-    → let a = c.before.before.before.before.args in
+accepted_call : (c : tie.Else-fault-ne0)
+    → let a = c.args in
     moves_fault a.plant.now a.book.now a.state a.goal ≡ 0
-accepted_call c = sym c.before.moves.ensures ∙ c.if1.false
+accepted_call c = sym c.moves-fault.ensures ∙ c.if-fault-ne0.false
 
-arrive-requires : tie.Need-arrive-requires
+arrive-requires : tie.Need-arrive-at-requires
 arrive-requires c κs =
-    let a = c.before.before.before.before.args in
+    let a = c.args in
     (moves_fine a.book.now a.state a.goal a.plant.now (accepted_call c)).goal
 
 good-requires : tie.Need-good-requires
 good-requires c κs =
-    let a = c.before.before.before.before.before.args in
+    let a = c.args in
     moves_given a.plant.now a.book.now a.state a.goal (accepted_call c.before)
 
-returns-2 : tie.Need-returns-2
+returns-2 : tie.Need-returns
 returns-2 c =
-    let a = c.before.before.before.before.before.before.args in
-    let good = c.good2.ensures in (
+    let a = c.args in
+    let good = c.good.ensures in (
       record {
         number = sym (accepted_call c.before.before);
-        mask = good ∙ ap (good_moves (plant_of a.plant.now) a.book.now a.state) c.before.arrive.ensures;
+        mask = good ∙ ap (good_moves (plant_of a.plant.now) a.book.now a.state) c.arrive-at.ensures;
       },
       of_moves,
     )

@@ -17,14 +17,14 @@ use Rattle.consult.proofs.state_row.Tie as tie
 consult-requires : tie.Need-consult-requires
 consult-requires c κs = search rules
 
-slice-aggregate-result : tie.Need-slice-aggregate-result
+slice-aggregate-result : tie.Need-slice_bounds-result-end
 slice-aggregate-result c = search rules
 
-returns : tie.Need-returns
+returns : tie.Need-returns-then-consult-ne0
 returns c =
-    let a = c.before.before.before.before.args in
+    let a = c.args in
     let refused : consult_fault a.book.now a.state 0 ≡ 0 → ⊥ =
-    λ z. c.before.if1.true (c.before.before.consult.ensures ∙ z)
+    λ z. c.if-consult-ne0.true (c.consult.ensures ∙ z)
     in (
       record {
         bytes = sym (no_row a.book.now a.state refused);
@@ -35,42 +35,42 @@ returns c =
       of_row,
     )
 
-row-place-requires : tie.Need-row-place-requires
+row-place-requires : tie.Need-row_place-start-requires
 row-place-requires c κs = search rules
 
-row-long-requires : tie.Need-row-long-requires
+row-long-requires : tie.Need-row_long-requires
 row-long-requires c κs = search rules
 
 -- past the refusal: the call is accepted, and the row stands within the book
-given : (c : tie.After-row-long)
-    → let a = c.before.before.before.before.before.args in
+given : (c : tie.After-row_long)
+    → let a = c.args in
     consult_fault a.book.now a.state 0 ≡ 0
-given c = sym c.before.before.before.consult.ensures ∙ c.before.before.if1.false
+given c = sym c.consult.ensures ∙ c.if-consult-ne0.false
 
-within : (c : tie.After-row-long)
-    → let a = c.before.before.before.before.before.args in
-    c.before.row_place_lem.result + c.row_long_lem.result ≤ length a.book.now
+within : (c : tie.After-row_long)
+    → let a = c.args in
+    c.row_place-start.result + c.row_long.result ≤ length a.book.now
 within c =
-    let a = c.before.before.before.before.before.args in
-    omega (arith, row_fits a.book.now a.state (given c), c.before.row_place_lem.ensures, c.row_long_lem.ensures)
+    let a = c.args in
+    omega (arith, row_fits a.book.now a.state (given c), c.row_place-start.ensures, c.row_long.ensures)
 
-add-end : tie.Need-overflow-add-end
+add-end : tie.Need-overflow_add-end
 add-end c = omega (arith, within c)
 
-sub-result : tie.Need-overflow-sub-result
+sub-result : tie.Need-slice_bounds-result-count
 sub-result c = search rules
 
-part-result-start : tie.Need-slice-bounds-result-start
+part-result-start : tie.Need-slice_bounds-result-start
 part-result-start c = search rules
 
-part-result-end : tie.Need-slice-bounds-result-end
+part-result-end : tie.Need-slice_bounds-result-end-2
 part-result-end c = within c
 
-returns-2 : tie.Need-returns-2
+returns-2 : tie.Need-returns
 returns-2 c =
-    let a = c.before.before.before.before.before.before.args in
-    let place = c.before.before.row_place_lem.ensures in
-    let part = row_is a.book.now a.state _ _ (given c.before) place c.before.row_long_lem.ensures in (
+    let a = c.args in
+    let place = c.row_place-start.ensures in
+    let part = row_is a.book.now a.state _ _ (given c.before) place c.row_long.ensures in (
       record {
         bytes = part;
         block = refl;

@@ -20,7 +20,7 @@ loop-holds c = passed_none _ _
 
 band-of-requires : tie.Need-band_of-requires invariant-loop-i decreases-loop-i
 band-of-requires c κs =
-    let pre = c.before.before.before.before.before.requires in
+    let pre = c.requires in
     (c.loop-i-test.true, pre.0, pre.1, pre.2)
 
 holds-requires : tie.Need-holds-requires invariant-loop-i decreases-loop-i
@@ -29,10 +29,10 @@ holds-requires c κs = search rules
 returns : tie.Need-returns-then-holds invariant-loop-i decreases-loop-i
 unfolding band_at
 returns c =
-    let l = c.before.before.before.before.loop-i in
-    let t = c.before.before.before.loop-i-test.true in
+    let l = c.loop-i in
+    let t = c.loop-i-test.true in
     first_found _ l.i _ l.invariant t
-    (ap (holds _) (sym c.before.before.band_of.ensures) ∙ sym c.before.holds.ensures ∙ c.if-holds.true)
+    (ap (holds _) (sym c.band_of.ensures) ∙ sym c.holds.ensures ∙ c.if-holds.true)
 
 add-i : tie.Need-overflow_add-i invariant-loop-i decreases-loop-i
 add-i c = search rules
@@ -42,14 +42,14 @@ loop-less c = search rules
 
 loop-again : tie.Need-loop-i-preserved invariant-loop-i decreases-loop-i
 loop-again c =
-    let l = c.before.before.before.before.loop-i in
+    let l = c.loop-i in
     passed_next _ l.i _ l.invariant
-    (ap (holds _) (sym c.before.before.band_of.ensures) ∙ sym c.before.holds.ensures ∙ c.if-holds.false)
+    (ap (holds _) (sym c.band_of.ensures) ∙ sym c.holds.ensures ∙ c.if-holds.false)
 
 returns-2 : tie.Need-returns invariant-loop-i decreases-loop-i
 unfolding band_at
 returns-2 c =
-    let l = c.before.loop-i in
+    let l = c.loop-i in
     first_past _ l.i _ l.invariant c.loop-i-test.false
 
 pub band_at_spec : {M : Type 1} → statement M

@@ -45,7 +45,7 @@ shared-slice-read-t22 c = search rules
 
 returns : tie.Need-returns
 unfolding band_of
-returns c = rw (c.before.end_of-2.ensures, c.before.before.before.before.end_of.ensures)
+returns c = rw (c.end_of-2.ensures, c.end_of.ensures)
 
 pub band_of_spec : {M : Type 1} → statement M
 band_of_spec =

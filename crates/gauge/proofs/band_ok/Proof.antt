@@ -15,7 +15,7 @@ ends-ok-requires c κs = search rules
 
 returns-2 : tie.Need-returns
 unfolding band_ok
-returns-2 c = rw (lt-ltb _ _ c.before.if-limit-b.false, c.ends_ok.ensures)
+returns-2 c = rw (lt-ltb _ _ c.if-limit-b.false, c.ends_ok.ensures)
 
 pub band_ok_spec : {M : Type 1} → statement M
 band_ok_spec = tie.close (tie.spec returns ends-ok-requires returns-2)

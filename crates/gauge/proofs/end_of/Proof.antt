@@ -8,7 +8,7 @@ returns : tie.Need-returns-then-kind-eq0
 returns c = search rules
 
 returns-2 : tie.Need-returns-else-kind-eq0
-returns-2 c = let a = c.before.args in other_kind a.kind a.at c.if-kind-eq0.false
+returns-2 c = let a = c.args in other_kind a.kind a.at c.if-kind-eq0.false
 
 pub end_of_spec : {M : Type 1} → statement M
 end_of_spec = tie.close (tie.spec returns returns-2)

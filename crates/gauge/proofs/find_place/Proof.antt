@@ -28,9 +28,9 @@ no-state-requires c κs = search rules
 -- the table is out of order
 returns : tie.Need-returns-then-not-ordered
 returns c =
-    let t = c.before in (
+    let t = c in (
       eleven _ _ _ _ _ _ c.no_state.result c.no_state.ensures
-          (sym t.before.before.table_ok-ordered.ensures ∙ not-true _ t.if-not-ordered.true-raw),
+          (sym t.table_ok-ordered.ensures ∙ not-true _ t.if-not-ordered.true-raw),
       cited,
     )
 
@@ -40,11 +40,11 @@ no-state-requires-2 c κs = search rules
 -- it is in order, but a number is not finite
 returns-2 : tie.Need-returns-then-not-readable
 returns-2 c =
-    let r = c.before in
-    let t = r.before in (
+    let r = c in
+    let t = r in (
       twelve _ _ _ _ _ _ c.no_state-then-not-readable.result c.no_state-then-not-readable.ensures
-          (sym t.before.before.table_ok-ordered.ensures ∙ not-false _ t.if-not-ordered.false-raw)
-          (sym t.before.reading_ok-readable.ensures ∙ not-true _ r.if-not-readable.true-raw),
+          (sym t.table_ok-ordered.ensures ∙ not-false _ t.if-not-ordered.false-raw)
+          (sym t.reading_ok-readable.ensures ∙ not-true _ r.if-not-readable.true-raw),
       cited,
     )
 
@@ -53,8 +53,8 @@ deviation-requires c κs = search rules
 
 band-at-requires : tie.Need-band_at-i-requires
 band-at-requires c κs =
-    let t = c.before.before in
-    let f = table_fits _ _ _ _ (sym t.before.before.table_ok-ordered.ensures ∙ not-false _ t.if-not-ordered.false-raw) in
+    let t = c in
+    let f = table_fits _ _ _ _ (sym t.table_ok-ordered.ensures ∙ not-false _ t.if-not-ordered.false-raw) in
     (f.kinds_long, f.ends_long, f.few)
 
 no-state-requires-3 : tie.Need-no_state-requires-then-states-i
@@ -63,14 +63,14 @@ no-state-requires-3 c κs = search rules
 -- no band holds the deviation
 returns-3 : tie.Need-returns-then-states-i
 returns-3 c =
-    let g = c.before in
-    let d = g.before.before in
-    let r = d.before in
-    let t = r.before in (
-      gap _ _ _ _ _ _ g.before.band_at-i.result
-          (g.before.band_at-i.ensures ∙ ap (band_at _ _ _) d.deviation.ensures)
-          (sym t.before.before.table_ok-ordered.ensures ∙ not-false _ t.if-not-ordered.false-raw)
-          (sym t.before.reading_ok-readable.ensures ∙ not-false _ r.if-not-readable.false-raw)
+    let g = c in
+    let d = g in
+    let r = d in
+    let t = r in (
+      gap _ _ _ _ _ _ g.band_at-i.result
+          (g.band_at-i.ensures ∙ ap (band_at _ _ _) d.deviation.ensures)
+          (sym t.table_ok-ordered.ensures ∙ not-false _ t.if-not-ordered.false-raw)
+          (sym t.reading_ok-readable.ensures ∙ not-false _ r.if-not-readable.false-raw)
           c.no_state-then-states-i.result c.no_state-then-states-i.ensures g.if-states-i.true,
       cited,
     )
@@ -84,14 +84,14 @@ shared-slice-read-t13 c = search rules
 -- band i holds it
 returns-4 : tie.Need-returns
 returns-4 c =
-    let g = c.before in
-    let d = g.before.before in
-    let r = d.before in
-    let t = r.before in (
-      band _ _ _ _ _ _ g.before.band_at-i.result
-          (g.before.band_at-i.ensures ∙ ap (band_at _ _ _) d.deviation.ensures)
-          (sym t.before.before.table_ok-ordered.ensures ∙ not-false _ t.if-not-ordered.false-raw)
-          (sym t.before.reading_ok-readable.ensures ∙ not-false _ r.if-not-readable.false-raw)
+    let g = c in
+    let d = g in
+    let r = d in
+    let t = r in (
+      band _ _ _ _ _ _ g.band_at-i.result
+          (g.band_at-i.ensures ∙ ap (band_at _ _ _) d.deviation.ensures)
+          (sym t.table_ok-ordered.ensures ∙ not-false _ t.if-not-ordered.false-raw)
+          (sym t.reading_ok-readable.ensures ∙ not-false _ r.if-not-readable.false-raw)
           g.if-states-i.false,
       cited,
     )

@@ -21,11 +21,11 @@ not_over (fin s m e) h = sym h
 
 returns : tie.Need-returns-then-top-x
 unfolding div neg of_bits
-returns c = under c.before.args.x c.if-top-x.true
+returns c = under c.args.x c.if-top-x.true
 
 returns-2 : tie.Need-returns-else-top-x
 unfolding div neg of_bits
-returns-2 c = not_over c.before.args.x c.if-top-x.false
+returns-2 c = not_over c.args.x c.if-top-x.false
 
 pub finite_spec : {M : Type 1} → statement M
 finite_spec = tie.close (tie.spec returns returns-2)

@@ -46,14 +46,14 @@ all kinds i ok h e = h ∙ ap (λ n. every n 0 (λ k. leb (get_or kinds k 0) 1))
 
 loop-again : tie.Need-loop-i-preserved invariant-loop-i decreases-loop-i
 loop-again c =
-    let l = c.before.before.loop-i in (
-      turn c.before.before.before.args.kinds.now l.i l.ok l.invariant.0,
-      omega (arith, c.before.loop-i-test.true),
+    let l = c.loop-i in (
+      turn c.args.kinds.now l.i l.ok l.invariant.0,
+      omega (arith, c.loop-i-test.true),
     )
 
 returns : tie.Need-returns invariant-loop-i decreases-loop-i
 returns c =
-    let l = c.before.loop-i in
+    let l = c.loop-i in
     all _ l.i l.ok l.invariant.0 (omega (arith, l.invariant.1, c.loop-i-test.false))
 
 pub kinds_ok_spec : {M : Type 1} → statement M

@@ -18,8 +18,8 @@ finite-requires-3 c κs = search rules
 
 returns : tie.Need-returns
 returns c =
-    rw (c.before.before.finite.ensures, c.before.finite-2.ensures, c.finite-3.ensures)
-    (reading_is _ _ _ c.before.before.before.deviation-d.ensures)
+    rw (c.finite.ensures, c.finite-2.ensures, c.finite-3.ensures)
+    (reading_is _ _ _ c.deviation-d.ensures)
 
 pub reading_ok_spec : {M : Type 1} → statement M
 reading_ok_spec =

@@ -39,14 +39,14 @@ not_below x y h = rw h (go (is_finite x) (is_finite y))
 
 returns : tie.Need-returns-then-top-x
 unfolding div neg of_bits
-returns c = let a = c.before.before.args in between a.x a.y c.before.if-x-y.true c.if-top-x.true
+returns c = let a = c.args in between a.x a.y c.if-x-y.true c.if-top-x.true
 
 returns-2 : tie.Need-returns-else-top-x
 unfolding div neg of_bits
-returns-2 c = let a = c.before.before.args in lowest a.x a.y c.if-top-x.false
+returns-2 c = let a = c.args in lowest a.x a.y c.if-top-x.false
 
 returns-3 : tie.Need-returns-else-x-y
-returns-3 c = let a = c.before.args in not_below a.x a.y c.if-x-y.false
+returns-3 c = let a = c.args in not_below a.x a.y c.if-x-y.false
 
 pub rises_spec : {M : Type 1} → statement M
 rises_spec = tie.close (tie.spec returns returns-2 returns-3)

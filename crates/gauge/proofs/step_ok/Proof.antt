@@ -14,16 +14,16 @@ band-ok-requires c κs = search rules
 
 returns : tie.Need-returns-then-not-band_ok
 returns c =
-    let b = c.before.before in
+    let b = c in
     sym (step_bad _ _ _ b.band_of-b.result b.band_of-b.ensures
-    (sym c.before.band_ok.ensures ∙ not-true _ c.if-not-band_ok.true-raw))
+    (sym c.band_ok.ensures ∙ not-true _ c.if-not-band_ok.true-raw))
 
 returns-2 : tie.Need-returns-then-i-eq0
 returns-2 c =
-    let o = c.before in
-    let b = o.before.before in
+    let o = c in
+    let b = o in
     sym (step_first _ _ _ b.band_of-b.result b.band_of-b.ensures
-    (sym o.before.band_ok.ensures ∙ not-false _ o.if-not-band_ok.false-raw) c.if-i-eq0.true)
+    (sym o.band_ok.ensures ∙ not-false _ o.if-not-band_ok.false-raw) c.if-i-eq0.true)
 
 sub-band-of : tie.Need-overflow_sub-i
 sub-band-of c = search rules
@@ -36,13 +36,13 @@ follows-requires c κs = search rules
 
 returns-3 : tie.Need-returns
 returns-3 c =
-    let e = c.before.before in
-    let o = e.before in
-    let b = o.before.before in
-    let was = c.before in
+    let e = c in
+    let o = e in
+    let b = o in
+    let was = c in
     c.follows.ensures ∙ sym (step_next _ _ _ b.band_of-b.result b.band_of-b.ensures
     was.band_of-before.result was.band_of-before.ensures
-    (sym o.before.band_ok.ensures ∙ not-false _ o.if-not-band_ok.false-raw) e.if-i-eq0.false)
+    (sym o.band_ok.ensures ∙ not-false _ o.if-not-band_ok.false-raw) e.if-i-eq0.false)
 
 pub step_ok_spec : {M : Type 1} → statement M
 step_ok_spec =

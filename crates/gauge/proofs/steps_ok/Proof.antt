@@ -21,15 +21,15 @@ loop-holds c = passed_none _ _
 
 step-ok-requires : tie.Need-step_ok-requires invariant-loop-i decreases-loop-i
 step-ok-requires c κs =
-    let pre = c.before.before.before.before.before.requires in
+    let pre = c.requires in
     (c.loop-i-test.true, pre.0, pre.1, pre.2)
 
 returns : tie.Need-returns-then-not-step_ok invariant-loop-i decreases-loop-i
 returns c =
-    let l = c.before.before.before.loop-i in
-    let t = c.before.before.loop-i-test.true in
+    let l = c.loop-i in
+    let t = c.loop-i-test.true in
     sym (every_fails _ l.i _ t
-    (sym c.before.step_ok.ensures ∙ not-true _ c.if-not-step_ok.true-raw))
+    (sym c.step_ok.ensures ∙ not-true _ c.if-not-step_ok.true-raw))
 
 add-i : tie.Need-overflow_add-i invariant-loop-i decreases-loop-i
 add-i c = search rules
@@ -39,12 +39,12 @@ loop-less c = search rules
 
 loop-again : tie.Need-loop-i-preserved invariant-loop-i decreases-loop-i
 loop-again c =
-    let l = c.before.before.before.loop-i in
-    passed_next _ l.i _ l.invariant (sym c.before.step_ok.ensures ∙ not-false _ c.if-not-step_ok.false-raw)
+    let l = c.loop-i in
+    passed_next _ l.i _ l.invariant (sym c.step_ok.ensures ∙ not-false _ c.if-not-step_ok.false-raw)
 
 returns-2 : tie.Need-returns invariant-loop-i decreases-loop-i
 returns-2 c =
-    let l = c.before.loop-i in
+    let l = c.loop-i in
     sym (every_passed _ l.i _ l.invariant c.loop-i-test.false)
 
 pub steps_ok_spec : {M : Type 1} → statement M

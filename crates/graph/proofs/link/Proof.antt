@@ -36,37 +36,37 @@ few c =
       c.requires.arrows_fit,
     )
 
-number-requires : tie.Need-number-requires
+number-requires : tie.Need-number-count-requires
 number-requires c κs = search rules
 
-cast-count : tie.Need-overflow-cast-count
+cast-count : tie.Need-overflow_cast-count
 cast-count c = search rules
 
-sub_at : tie.Need-overflow-sub-at
+sub_at : tie.Need-overflow_sub-at
 sub_at c = search rules
 
-sub-labels : tie.Need-overflow-sub-labels
+sub-labels : tie.Need-overflow_sub-labels
 sub-labels c = search rules
 
-slice-aggregate-order : tie.Need-slice-aggregate-order
+slice-aggregate-order : tie.Need-slice_bounds-order-end
 slice-aggregate-order c = search rules
 
-mul-order : tie.Need-overflow-mul-order
+mul-order : tie.Need-offset_bounds-graph-rev
 mul-order c = search rules
 
-sub_order : tie.Need-overflow-sub-order
+sub_order : tie.Need-slice_bounds-order-count
 sub_order c = search rules
 
-part-order-start : tie.Need-slice-bounds-order-start
+part-order-start : tie.Need-slice_bounds-order-start
 part-order-start c = search rules
 
-part-order-end : tie.Need-slice-bounds-order-end
+part-order-end : tie.Need-slice_bounds-order-end-2
 part-order-end c = search rules
 
-order-requires : tie.Need-order-requires
+order-requires : tie.Need-order-good-requires
 unfolding places_in
 order-requires c κs =
-    let s = c.before.before.before.before.before.before.before.before in
+    let s = c in
     let g = s.args.graph.now in
     let at = length g - 2049 in
     let k = at / 2 in (
@@ -83,86 +83,86 @@ order-requires c κs =
     )
 
 -- from the order back to the function's entry, and from the starts to it
-abbrev entry : tie.After-order → tie.Start
+abbrev entry : tie.After-order-good → tie.Start
 entry c = c.before.before.before.before.before.before.before.before.before
 
 -- the graph keeps its length when the groups are in order
-kept : (c : tie.After-order)
+kept : (c : tie.After-order-good)
     → let g = (entry c).args.graph.now in
     let at = length g - 2049 in
     let k = at / 2 in
-    length (put_mid k (at - k) g c.order.new.1.1.1.1.1.1.0) ≡ length g
+    length (put_mid k (at - k) g c.order-good.new.rev) ≡ length g
 kept c =
     let g = (entry c).args.graph.now in
     let at = length g - 2049 in
     let k = at / 2 in
-    same_len_mid k (at - k) g c.order.new.1.1.1.1.1.1.0 c.order.auto.1.1.1.1.1.1.0
+    same_len_mid k (at - k) g c.order-good.new.rev c.order-good.auto.rev
 
-slice-aggregate-put : tie.Need-slice-aggregate-put
+slice-aggregate-put : tie.Need-slice_bounds-put-end
 slice-aggregate-put c = search rules
 
-add-put : tie.Need-overflow-add-put
+add-put : tie.Need-overflow_add-count
 add-put c = search rules
 
 put-requires : tie.Need-put-requires
 put-requires c κs =
-    let o = c.before.before.before.before.before in
-    let s = entry o in
-    let n = o.before.before.before.number.ensures in (
-      omega (arith, few s, n, o.order.auto.1.1.1.1.1.0, length-replicate {A = ℕ} 1025 0),
-      omega (arith, few s, n, s.pre.graph_long, kept o),
+    let o = c in
+    let s = entry o.before.before.before.before.before in
+    let n = o.number-count.ensures in (
+      omega (arith, few s, n, o.order-good.auto.starts, length-replicate {A = ℕ} 1025 0),
+      omega (arith, few s, n, s.requires.graph_long, kept o.before.before.before.before.before),
     )
 
-mul-labels-to : tie.Need-overflow-mul-labels-to
+mul-labels-to : tie.Need-offset_bounds-graph-labels
 mul-labels-to c = search rules
 
-sub-labels-to : tie.Need-overflow-sub-labels-to
+sub-labels-to : tie.Need-slice_bounds-labels_to-count
 sub-labels-to c = search rules
 
-part-labels-to-start : tie.Need-slice-bounds-labels-to-start
+part-labels-to-start : tie.Need-slice_bounds-labels_to-start
 part-labels-to-start c = search rules
 
-part-labels-to-end : tie.Need-slice-bounds-labels-to-end
+part-labels-to-end : tie.Need-slice_bounds-labels_to-end
 part-labels-to-end c = search rules
 
-labels-to-requires : tie.Need-labels-to-requires
+labels-to-requires : tie.Need-labels_to-requires
 labels-to-requires c κs = search rules
 
-same_length : tie.Need-same-length
+same_length : tie.Need-shape_of-graph
 same_length c = search rules
 
 returns : tie.Need-returns
 unfolding places_in
 returns c =
-    let labelled = c.before.before in
-    let put = labelled.before.before.before.before in
-    let o = put.before.before.before.before.before.before in
-    let st = entry o in
+    let labelled = c in
+    let put = labelled in
+    let o = put in
+    let st = entry o.before.before.before.before.before.before.before.before.before.before.before.before in
     let a = st.args in
-    let n = o.before.before.before.number.result in
+    let n = o.number-count.result in
     let g = a.graph.now in
     let s = length g - 2049 in
     let k = s / 2 in
     let l = length g - 1024 in
     let from : List ℕ = replicate 1025 0 in
-    let read = o.before.before.before.number.ensures in
+    let read = o.number-count.ensures in
     let fits = few st in
-    let labels = labelled.labels-to.new.1.0 in
-    let g₂ = put.put.new.1.1.0 in
-    let long : length g₂ ≡ length g = put.put.auto.1.1.0 ∙ kept o in
+    let labels = labelled.labels_to.new.to in
+    let g₂ = put.put.new.to in
+    let long : length g₂ ≡ length g = put.put.auto.to ∙ kept o.before.before.before.before.before.before.before.before.before.before.before.before in
     let size : length (put_mid l (length g₂ - l) g₂ labels) ≡ length g =
-    same_len_mid l (length g₂ - l) g₂ labels labelled.labels-to.auto.1.0 ∙ long in
+    same_len_mid l (length g₂ - l) g₂ labels labelled.labels_to.auto.to ∙ long in
     let room : word 0 a.plant.now ≤ length (mid_of l (length g₂ - l) g₂) =
-    omega (arith, fits, st.pre.graph_long, long, mid_len l (length g₂) g₂ (omega arith)) in (
-      o.order.ensures.0,
+    omega (arith, fits, st.requires.graph_long, long, mid_len l (length g₂) g₂ (omega arith)) in (
+      o.order-good.ensures.0,
       λ same.
-          linked a.plant.now a.ends.now _ o.order.new.1.1.1.1.1.1.0 from
-          o.order.new.1.1.1.1.1.0 g g₂ labels _ _ n k s l read (omega (arith, fits, read))
-          st.pre.graph_long fits.2 long size refl refl refl
-          (rw (← read) at (o.order.ensures.1.1 same)) (rw (← read) at (o.order.ensures.1.0 same))
+          linked a.plant.now a.ends.now _ o.order-good.new.rev from
+          o.order-good.new.starts g g₂ labels _ _ n k s l read (omega (arith, fits, read))
+          st.requires.graph_long fits.2 long size refl refl refl
+          (rw (← read) at (o.order-good.ensures.1.1 same)) (rw (← read) at (o.order-good.ensures.1.0 same))
           put.put.ensures.0 put.put.ensures.1
           (front_labels a.plant.now (mid_of l (length g₂ - l) g₂) labels fits.0 room
-          labelled.labels-to.ensures),
+          labelled.labels_to.ensures),
     )
 
 pub link_spec : {M : Type 1} → statement M

@@ -7,41 +7,41 @@ use borrow.Author.Rules.{rules}
 use Rattle.listing.proofs.refused_text.Statement.{statement}
 use Rattle.listing.proofs.refused_text.Tie as tie
 
-slice-relend-prefix-put-refused : tie.Need-slice-relend-prefix-put-refused
+slice-relend-prefix-put-refused : tie.Need-slice_bounds-put_refused-end
 slice-relend-prefix-put-refused c = search rules
 
-slice-aggregate-put-refused : tie.Need-slice-aggregate-put-refused
+slice-aggregate-put-refused : tie.Need-slice_bounds-put_refused-end-2
 slice-aggregate-put-refused c = search rules
 
-put-refused-requires : tie.Need-put-refused-requires
+put-refused-requires : tie.Need-put_refused-long-requires
 put-refused-requires c κs = search rules
 
-same_length : tie.Need-same-length
+same_length : tie.Need-shape_of-out-then-out-long
 same_length c = search rules
 
-returns : tie.Need-returns
+returns : tie.Need-returns-then-out-long
 returns c =
-    let count = c.before.before.before in
-    counted_short count.before.before.before.args.out.now count.put_refused.ensures c.if1.true
+    let count = c in
+    counted_short count.args.out.now count.put_refused-long.ensures c.if-out-long.true
 
-put-refused-requires-2 : tie.Need-put-refused-requires-2
+put-refused-requires-2 : tie.Need-put_refused-requires
 put-refused-requires-2 c κs = search rules
 
-cast-result : tie.Need-overflow-cast-result
+cast-result : tie.Need-overflow_cast-result
 unfolding refused_text newline
 cast-result c =
-    let a = c.before.before.before.before.before.before.before.before.before.before.args in
-    omega (arith, c.before.before.put-refused2.ensures.place, figure_few a.number newline (omega arith))
+    let a = c.args in
+    omega (arith, c.put_refused.ensures.place, figure_few a.number newline (omega arith))
 
-same-length-2 : tie.Need-same-length-2
+same-length-2 : tie.Need-shape_of-out
 same-length-2 c = search rules
 
-returns-2 : tie.Need-returns-2
+returns-2 : tie.Need-returns
 returns-2 c =
-    let room = c.before.before.before.before in
-    let count = room.before.before.before in
-    counted_whole count.before.before.before.args.out.now count.put_refused.ensures room.if1.false
-    c.before.before.put-refused2.ensures
+    let room = c in
+    let count = room in
+    counted_whole count.args.out.now count.put_refused-long.ensures room.if-out-long.false
+    c.put_refused.ensures
 
 pub refused_text_spec : {M : Type 1} → statement M
 refused_text_spec =

@@ -31,22 +31,22 @@ number-requires-6 c κs = search rules
 number-requires-7 : tie.Need-number-requires-7
 number-requires-7 c κs = search rules
 
-cast-result : tie.Need-overflow-cast-result
+cast-result : tie.Need-overflow_cast-result
 cast-result c = search rules
 
-book-long-requires : tie.Need-book-long-requires
+book-long-requires : tie.Need-book_long-requires
 book-long-requires c κs = search rules
 
 returns : tie.Need-returns
 unfolding alike plant_of book_states book_moves book_goals book_total
 returns c =
-    let n₆ = c.before.before in
-    let n₂ = n₆.before.before.before.before in
-    ap₂ (λ (t u : Bool). t && u) (ap₂ eqb n₂.before.number.ensures n₂.number2.ensures)
+    let n₆ = c in
+    let n₂ = n₆ in
+    ap₂ (λ (t u : Bool). t && u) (ap₂ eqb n₂.number.ensures n₂.number-2.ensures)
     (ap₂ (λ (t u : Bool). t && u)
-    (ap₂ eqb n₆.before.before.before.number3.ensures n₆.before.before.number4.ensures)
-    (ap₂ (λ (t u : Bool). t && u) (ap₂ eqb n₆.before.number5.ensures n₆.number6.ensures)
-    (ap₂ eqb c.before.number7.ensures c.book_long_lem.ensures)))
+    (ap₂ eqb n₆.number-3.ensures n₆.number-4.ensures)
+    (ap₂ (λ (t u : Bool). t && u) (ap₂ eqb n₆.number-5.ensures n₆.number-6.ensures)
+    (ap₂ eqb c.number-7.ensures c.book_long.ensures)))
 
 pub alike_spec : {M : Type 1} → statement M
 alike_spec =

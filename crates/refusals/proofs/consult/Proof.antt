@@ -7,25 +7,25 @@ use borrow.Author.Rules.{rules}
 use Rattle.refusals.proofs.consult.Statement.{statement}
 use Rattle.refusals.proofs.consult.Tie as tie
 
-book-fault-requires : tie.Need-book-fault-requires
+book-fault-requires : tie.Need-book_fault-fault-requires
 book-fault-requires c κs = search rules
 
-returns : tie.Need-returns
+returns : tie.Need-returns-then-fault-ne0
 unfolding consult_fault
 returns c =
-    let a = c.before.before.before.args in
-    let f = c.before.book-fault.ensures in
-    f ∙ sym (first_given (book_fault a.book.now) _ (λ z. c.if1.true (f ∙ z)))
+    let a = c.args in
+    let f = c.book_fault-fault.ensures in
+    f ∙ sym (first_given (book_fault a.book.now) _ (λ z. c.if-fault-ne0.true (f ∙ z)))
 
 asked-requires : tie.Need-asked-requires
 asked-requires c κs = search rules
 
-returns-2 : tie.Need-returns-2
+returns-2 : tie.Need-returns
 unfolding consult_fault
 returns-2 c =
-    let e = c.before in
-    let a = e.before.before.before.args in
-    let fine = sym e.before.book-fault.ensures ∙ e.if1.false in
+    let e = c in
+    let a = e.args in
+    let fine = sym e.book_fault-fault.ensures ∙ e.if-fault-ne0.false in
     c.asked.ensures ∙ sym (first_passed (book_fault a.book.now) _ fine)
 
 pub consult_spec : {M : Type 1} → statement M

@@ -11,15 +11,15 @@ use Rattle.refusals.proofs.drop_room.Tie as tie
 number-requires : tie.Need-number-requires
 number-requires c κs = search rules
 
-cast-result : tie.Need-overflow-cast-result
+cast-result : tie.Need-overflow_cast-result
 cast-result c = search rules
 
-mul-result : tie.Need-overflow-mul-result
+mul-result : tie.Need-overflow_mul-result
 mul-result c = search rules
 
 returns : tie.Need-returns
 unfolding drop_room plant_of
-returns c = ap (λ (n : ℕ). leb (2 * n) c.before.before.args.drops) c.number.ensures
+returns c = ap (λ (n : ℕ). leb (2 * n) c.args.drops) c.number.ensures
 
 pub drop_room_spec : {M : Type 1} → statement M
 drop_room_spec = tie.close (tie.spec number-requires cast-result mul-result returns)

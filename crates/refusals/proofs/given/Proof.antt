@@ -14,56 +14,56 @@ use Rattle.refusals.proofs.given.Tie as tie
 number-requires : tie.Need-number-requires
 number-requires c κs = search rules
 
-cast-mask-ok : tie.Need-overflow-cast-mask-ok
+cast-mask-ok : tie.Need-overflow_cast-number
 cast-mask-ok c = search rules
 
-mask-ok-requires : tie.Need-mask-ok-requires
+mask-ok-requires : tie.Need-mask_ok-requires
 mask-ok-requires c κs = search rules
 
 -- the test of the mask
-masked : (c : tie.After-mask-ok)
-    → let a = c.before.before.before.args in
-    mask_ok (plant_of a.plant.now).moves a.gone ≡ c.mask_ok_lem.result
+masked : (c : tie.After-mask_ok)
+    → let a = c.args in
+    mask_ok (plant_of a.plant.now).moves a.gone ≡ c.mask_ok.result
 unfolding plant_of
 masked c =
-    let a = c.before.before.before.args in
-    ap (λ (u : ℕ). mask_ok u a.gone) (sym c.before.number.ensures) ∙ sym c.mask_ok_lem.ensures
+    let a = c.args in
+    ap (λ (u : ℕ). mask_ok u a.gone) (sym c.number.ensures) ∙ sym c.mask_ok.ensures
 
-returns : tie.Need-returns
+returns : tie.Need-returns-then-not-mask_ok
 unfolding room_fault
 returns c =
-    let a = c.before.before.before.before.args in
+    let a = c.args in
     let p = plant_of a.plant.now in
     sym
     (told_6 p a.gone (book_room p a.room && drop_room p a.drops)
-    (masked c.before ∙ not-true _ c.if1.true))
+    (masked c.before ∙ not-true _ c.if-not-mask_ok.true-raw))
 
-book-room-requires : tie.Need-book-room-requires
+book-room-requires : tie.Need-book_room-requires
 book-room-requires c κs = search rules
 
-drop-room-requires : tie.Need-drop-room-requires
+drop-room-requires : tie.Need-drop_room-requires
 drop-room-requires c κs = search rules
 
 -- what the buffers' lengths decide
-roomed : (c : tie.After-drop-room)
-    → let a = c.before.before.before.before.before.before.args in
+roomed : (c : tie.After-drop_room)
+    → let a = c.args in
     let p = plant_of a.plant.now in
     first_of (mask_fault p a.gone) (room_fault p a.room a.drops)
-    ≡ when (not (c.before.book-room.result && c.drop-room.result)) 7
+    ≡ when (not (c.book_room.result && c.drop_room.result)) 7
 unfolding room_fault
 roomed c =
-    let e = c.before.before in
-    let a = e.before.before.before.before.args in
+    let e = c in
+    let a = e.args in
     let p = plant_of a.plant.now in
     told_room p a.gone (book_room p a.room && drop_room p a.drops)
-    (masked e.before ∙ not-false _ e.if1.false)
-    ∙ ap₂ (λ (t u : Bool). when (not (t && u)) 7) (sym c.before.book-room.ensures) (sym c.drop-room.ensures)
+    (masked e.before.before.before ∙ not-false _ e.if-not-mask_ok.false-raw)
+    ∙ ap₂ (λ (t u : Bool). when (not (t && u)) 7) (sym c.book_room.ensures) (sym c.drop_room.ensures)
 
-returns-2 : tie.Need-returns-2
-returns-2 c = sym (roomed c.before ∙ ap (λ (t : Bool). when t 7) c.if2.true)
+returns-2 : tie.Need-returns-then-not-book_room-drop_room
+returns-2 c = sym (roomed c.before ∙ ap (λ (t : Bool). when t 7) c.if-not-book_room-drop_room.true-raw)
 
-returns-3 : tie.Need-returns-3
-returns-3 c = sym (roomed c.before ∙ ap (λ (t : Bool). when t 7) c.if2.false)
+returns-3 : tie.Need-returns
+returns-3 c = sym (roomed c.before ∙ ap (λ (t : Bool). when t 7) c.if-not-book_room-drop_room.false-raw)
 
 pub given_spec : {M : Type 1} → statement M
 given_spec =

@@ -12,16 +12,16 @@ use borrow.Author.Rules.{rules}
 use Rattle.refusals.proofs.lent.Statement.{statement}
 use Rattle.refusals.proofs.lent.Tie as tie
 
-plant-fault-requires : tie.Need-plant-fault-requires
+plant-fault-requires : tie.Need-plant_fault-fault-requires
 plant-fault-requires c κs = search rules
 
-returns : tie.Need-returns
+returns : tie.Need-returns-then-fault-ne0
 returns c =
-    let a = c.before.before.before.before.args in
-    let f = c.before.plant-fault.ensures in
-    f ∙ sym (lent_plant a.plant.now a.book.now (λ z. c.if1.true (f ∙ z)))
+    let a = c.args in
+    let f = c.plant_fault-fault.ensures in
+    f ∙ sym (lent_plant a.plant.now a.book.now (λ z. c.if-fault-ne0.true (f ∙ z)))
 
-book-fault-requires : tie.Need-book-fault-requires
+book-fault-requires : tie.Need-book_fault-wrong-requires
 book-fault-requires c κs = search rules
 
 alike-requires : tie.Need-alike-requires
@@ -29,28 +29,28 @@ alike-requires c κs = search rules
 
 -- the plant is accepted, and the test of the book
 accepted : (c : tie.After-alike)
-    → plant_fault c.before.before.before.before.before.before.args.plant.now ≡ 0
-accepted c = sym c.before.before.before.plant-fault.ensures ∙ c.before.before.if1.false
+    → plant_fault c.args.plant.now ≡ 0
+accepted c = sym c.plant_fault-fault.ensures ∙ c.if-fault-ne0.false
 
 tested : (c : tie.After-alike)
-    → let a = c.before.before.before.before.before.before.args in
+    → let a = c.args in
     (eqb (book_fault a.book.now) 4 || not (alike (plant_of a.plant.now) a.book.now))
-    ≡ (eqb c.before.book-fault.result 4 || not c.alike.result)
+    ≡ (eqb c.book_fault-wrong.result 4 || not c.alike.result)
 tested c =
-    ap₂ (λ (n : ℕ) (t : Bool). eqb n 4 || not t) (sym c.before.book-fault.ensures) (sym c.alike.ensures)
+    ap₂ (λ (n : ℕ) (t : Bool). eqb n 4 || not t) (sym c.book_fault-wrong.ensures) (sym c.alike.ensures)
 
-returns-2 : tie.Need-returns-2
+returns-2 : tie.Need-returns-then-wrong-alike
 returns-2 c =
-    let d = c.before in
-    let a = d.before.before.before.before.before.before.args in
-    sym (lent_4 a.plant.now a.book.now (accepted d) (tested d ∙ c.if2.true))
+    let d = c in
+    let a = d.args in
+    sym (lent_4 a.plant.now a.book.now (accepted d.before) (tested d.before ∙ c.if-wrong-alike.true))
 
-returns-3 : tie.Need-returns-3
+returns-3 : tie.Need-returns
 returns-3 c =
-    let d = c.before in
-    let a = d.before.before.before.before.before.before.args in
-    d.before.book-fault.ensures
-    ∙ sym (lent_book a.plant.now a.book.now (accepted d) (tested d ∙ c.if2.false))
+    let d = c in
+    let a = d.args in
+    d.book_fault-wrong.ensures
+    ∙ sym (lent_book a.plant.now a.book.now (accepted d.before) (tested d.before ∙ c.if-wrong-alike.false))
 
 pub lent_spec : {M : Type 1} → statement M
 lent_spec =

@@ -11,35 +11,35 @@ use borrow.Author.Rules.{rules}
 use Rattle.refusals.proofs.lent_index.Statement.{statement}
 use Rattle.refusals.proofs.lent_index.Tie as tie
 
-plant-fault-requires : tie.Need-plant-fault-requires
+plant-fault-requires : tie.Need-plant_fault-fault-requires
 plant-fault-requires c κs = search rules
 
-returns : tie.Need-returns
+returns : tie.Need-returns-then-fault-ne0
 returns c =
-    let a = c.before.before.before.before.args in
-    let f = c.before.plant-fault.ensures in
-    f ∙ sym (first_given (plant_fault a.plant.now) _ (λ z. c.if1.true (f ∙ z)))
+    let a = c.args in
+    let f = c.plant_fault-fault.ensures in
+    f ∙ sym (first_given (plant_fault a.plant.now) _ (λ z. c.if-fault-ne0.true (f ∙ z)))
 
-is-index-requires : tie.Need-is-index-requires
+is-index-requires : tie.Need-is_index-requires
 is-index-requires c κs = search rules
 
 -- what the check of the index decides: its elements are bytes
-checked : (c : tie.After-is-index)
-    → let a = c.before.before.before.before.before.args in
+checked : (c : tie.After-is_index)
+    → let a = c.args in
     first_of (plant_fault a.plant.now) (index_fault (plant_of a.plant.now) a.index.now)
-    ≡ when (not c.is-index.result) 10
+    ≡ when (not c.is_index.result) 10
 checked c =
-    let e = c.before in
-    let f = e.before in
-    let a = f.before.before.before.args in
-    lent_10 a.plant.now a.index.now (sym f.plant-fault.ensures ∙ e.if1.false)
-    (λ k. omega (arith, f.before.shared-slice-known2.given k)) c.is-index.ensures
+    let e = c in
+    let f = e in
+    let a = f.args in
+    lent_10 a.plant.now a.index.now (sym f.plant_fault-fault.ensures ∙ e.if-fault-ne0.false)
+    (λ k. omega (arith, f.shared_slice_known-2-1.given k)) c.is_index.ensures
 
-returns-2 : tie.Need-returns-2
-returns-2 c = sym (checked c.before ∙ ap (λ (t : Bool). when t 10) c.if2.true)
+returns-2 : tie.Need-returns-then-not-is_index
+returns-2 c = sym (checked c.before ∙ ap (λ (t : Bool). when t 10) c.if-not-is_index.true-raw)
 
-returns-3 : tie.Need-returns-3
-returns-3 c = sym (checked c.before ∙ ap (λ (t : Bool). when t 10) c.if2.false)
+returns-3 : tie.Need-returns
+returns-3 c = sym (checked c.before ∙ ap (λ (t : Bool). when t 10) c.if-not-is_index.false-raw)
 
 pub lent_index_spec : {M : Type 1} → statement M
 lent_index_spec =

@@ -10,30 +10,30 @@ use borrow.Author.Rules.{rules}
 use Rattle.refusals.proofs.make_ahead.Statement.{statement}
 use Rattle.refusals.proofs.make_ahead.Tie as tie
 
-head-ok-requires : tie.Need-head-ok-requires
+head-ok-requires : tie.Need-head_ok-requires
 head-ok-requires c κs = search rules
 
 number-requires : tie.Need-number-requires
 number-requires c κs = search rules
 
-cast-mask-ok : tie.Need-overflow-cast-mask-ok
+cast-mask-ok : tie.Need-overflow_cast-number
 cast-mask-ok c = search rules
 
-mask-ok-requires : tie.Need-mask-ok-requires
+mask-ok-requires : tie.Need-mask_ok-requires
 mask-ok-requires c κs = search rules
 
-book-room-requires : tie.Need-book-room-requires
+book-room-requires : tie.Need-book_room-requires
 book-room-requires c κs = search rules
 
 returns : tie.Need-returns
 unfolding make_ahead plant_of
 returns c =
-    let m = c.before in
-    let p = m.before.before in
+    let m = c in
+    let p = m in
     ap₂ (λ (t u : Bool). t && u) p.head_ok.ensures
     (ap₂ (λ (t u : Bool). t && u)
-    (m.mask_ok_lem.ensures ∙ ap (λ (u : ℕ). mask_ok u p.before.before.args.mask) m.before.number.ensures)
-    c.book-room.ensures)
+    (m.mask_ok.ensures ∙ ap (λ (u : ℕ). mask_ok u p.args.mask) m.number.ensures)
+    c.book_room.ensures)
 
 pub make_ahead_spec : {M : Type 1} → statement M
 make_ahead_spec =

@@ -8,26 +8,26 @@ use borrow.Author.Rules.{rules}
 use Rattle.refusals.proofs.withdraw.Statement.{statement}
 use Rattle.refusals.proofs.withdraw.Tie as tie
 
-lent-requires : tie.Need-lent-requires
+lent-requires : tie.Need-lent-fault-requires
 lent-requires c κs = search rules
 
-returns : tie.Need-returns
+returns : tie.Need-returns-then-fault-ne0
 unfolding withdraw_fault
 returns c =
-    let a = c.before.before.before.before.args in
-    let f = c.before.lent.ensures in
-    f ∙ sym (first_given (lent_fault a.plant.now a.book.now) _ (λ z. c.if1.true (f ∙ z)))
+    let a = c.args in
+    let f = c.lent-fault.ensures in
+    f ∙ sym (first_given (lent_fault a.plant.now a.book.now) _ (λ z. c.if-fault-ne0.true (f ∙ z)))
 
 given-requires : tie.Need-given-requires
 given-requires c κs = search rules
 
-returns-2 : tie.Need-returns-2
+returns-2 : tie.Need-returns
 unfolding withdraw_fault
 returns-2 c =
-    let e = c.before in
-    let a = e.before.before.before.before.args in
+    let e = c in
+    let a = e.args in
     let p = plant_of a.plant.now in
-    let lent = sym e.before.lent.ensures ∙ e.if1.false in
+    let lent = sym e.lent-fault.ensures ∙ e.if-fault-ne0.false in
     c.given.ensures
     ∙ sym
     (first_passed (lent_fault a.plant.now a.book.now)

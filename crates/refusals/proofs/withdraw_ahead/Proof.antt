@@ -12,38 +12,38 @@ use borrow.Author.Rules.{rules}
 use Rattle.refusals.proofs.withdraw_ahead.Statement.{statement}
 use Rattle.refusals.proofs.withdraw_ahead.Tie as tie
 
-make-ahead-requires : tie.Need-make-ahead-requires
+make-ahead-requires : tie.Need-make_ahead-requires
 make-ahead-requires c κs = search rules
 
-drop-room-requires : tie.Need-drop-room-requires
+drop-room-requires : tie.Need-drop_room-requires
 drop-room-requires c κs = search rules
 
 -- the test of the plant, the mask and the buffers
-given : (c : tie.After-drop-room)
-    → let a = c.before.before.before.before.args in
+given : (c : tie.After-drop_room)
+    → let a = c.args in
     (make_ahead a.plant.now a.gone a.room && drop_room (plant_of a.plant.now) a.drops)
-    ≡ (c.before.make-ahead.result && c.drop-room.result)
-given c = ap₂ (λ (t u : Bool). t && u) (sym c.before.make-ahead.ensures) (sym c.drop-room.ensures)
+    ≡ (c.make_ahead.result && c.drop_room.result)
+given c = ap₂ (λ (t u : Bool). t && u) (sym c.make_ahead.ensures) (sym c.drop_room.ensures)
 
-returns : tie.Need-returns
+returns : tie.Need-returns-then-not-make_ahead-drop_room
 unfolding withdraw_ahead
 returns c =
-    let t = c.before in
-    rw (given t ∙ not-true (t.before.make-ahead.result && t.drop-room.result) c.if1.true)
+    let t = c in
+    rw (given t.before ∙ not-true (t.make_ahead.result && t.drop_room.result) c.if-not-make_ahead-drop_room.true-raw)
 
 alike-requires : tie.Need-alike-requires
 alike-requires c κs = search rules
 
-book-fault-requires : tie.Need-book-fault-requires
+book-fault-requires : tie.Need-book_fault-requires
 book-fault-requires c κs = search rules
 
-returns-2 : tie.Need-returns-2
+returns-2 : tie.Need-returns
 unfolding withdraw_ahead
 returns-2 c =
-    let e = c.before.before in
-    let t = e.before in
-    rw (given t ∙ not-false (t.before.make-ahead.result && t.drop-room.result) e.if1.false)
-    (ap₂ (λ (u : Bool) (n : ℕ). u && eqb n 0) c.before.alike.ensures c.book-fault.ensures)
+    let e = c in
+    let t = e in
+    rw (given t.before.before.before ∙ not-false (t.make_ahead.result && t.drop_room.result) e.if-not-make_ahead-drop_room.false-raw)
+    (ap₂ (λ (u : Bool) (n : ℕ). u && eqb n 0) c.alike.ensures c.book_fault.ensures)
 
 pub withdraw_ahead_spec : {M : Type 1} → statement M
 withdraw_ahead_spec =

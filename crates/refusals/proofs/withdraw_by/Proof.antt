@@ -7,25 +7,25 @@ use borrow.Author.Rules.{rules}
 use Rattle.refusals.proofs.withdraw_by.Statement.{statement}
 use Rattle.refusals.proofs.withdraw_by.Tie as tie
 
-lent-index-requires : tie.Need-lent-index-requires
+lent-index-requires : tie.Need-lent_index-bad-requires
 lent-index-requires c κs = search rules
 
-returns : tie.Need-returns
+returns : tie.Need-returns-then-bad-ne0
 returns c =
-    let a = c.before.before.before.before.before.args in
+    let a = c.args in
     let plain = withdraw_fault a.plant.now a.book.now a.gone a.room a.drops in
-    by_given a.plant.now a.index.now plain c.before.lent-index.ensures c.if1.true
+    by_given a.plant.now a.index.now plain c.lent_index-bad.ensures c.if-bad-ne0.true
 
 withdraw-requires : tie.Need-withdraw-requires
 withdraw-requires c κs = search rules
 
-returns-2 : tie.Need-returns-2
+returns-2 : tie.Need-returns
 returns-2 c =
-    let e = c.before in
-    let a = e.before.before.before.before.before.args in
+    let e = c in
+    let a = e.args in
     let plain = withdraw_fault a.plant.now a.book.now a.gone a.room a.drops in
     c.withdraw.ensures
-    ∙ sym (by_passed a.plant.now a.index.now plain e.before.lent-index.ensures e.if1.false)
+    ∙ sym (by_passed a.plant.now a.index.now plain e.lent_index-bad.ensures e.if-bad-ne0.false)
 
 pub withdraw_by_spec : {M : Type 1} → statement M
 withdraw_by_spec = tie.close (tie.spec lent-index-requires returns withdraw-requires returns-2)

@@ -11,31 +11,31 @@ use borrow.Author.Rules.{rules}
 use Rattle.refusals.proofs.withdraw_list.Statement.{statement}
 use Rattle.refusals.proofs.withdraw_list.Tie as tie
 
-lent-requires : tie.Need-lent-requires
+lent-requires : tie.Need-lent-fault-requires
 lent-requires c κs = search rules
 
-returns : tie.Need-returns
+returns : tie.Need-returns-then-fault-ne0
 unfolding withdraw_list_fault
 returns c =
-    let a = c.before.before.before.before.before.args in
-    let f = c.before.lent.ensures in
-    f ∙ sym (first_given (lent_fault a.plant.now a.book.now) _ (λ z. c.if1.true (f ∙ z)))
+    let a = c.args in
+    let f = c.lent-fault.ensures in
+    f ∙ sym (first_given (lent_fault a.plant.now a.book.now) _ (λ z. c.if-fault-ne0.true (f ∙ z)))
 
-whole-masks-requires : tie.Need-whole-masks-requires
+whole-masks-requires : tie.Need-whole_masks-requires
 whole-masks-requires c κs = search rules
 
 -- what is lent is accepted
-lent_none : (c : tie.Else1)
-    → let a = c.before.before.before.before.before.args in lent_fault a.plant.now a.book.now ≡ 0
-lent_none c = sym c.before.lent.ensures ∙ c.if1.false
+lent_none : (c : tie.Else-fault-ne0)
+    → let a = c.args in lent_fault a.plant.now a.book.now ≡ 0
+lent_none c = sym c.lent-fault.ensures ∙ c.if-fault-ne0.false
 
-returns-2 : tie.Need-returns-2
+returns-2 : tie.Need-returns-then-not-whole_masks
 returns-2 c =
-    let e = c.before.before in
-    let a = e.before.before.before.before.before.args in
+    let e = c in
+    let a = e.args in
     sym
-    (list_9 a.plant.now a.book.now a.masks.now a.room a.drops (lent_none e)
-    (sym c.before.whole-masks.ensures ∙ not-true _ c.if2.true))
+    (list_9 a.plant.now a.book.now a.masks.now a.room a.drops (lent_none e.before.before)
+    (sym c.whole_masks.ensures ∙ not-true _ c.if-not-whole_masks.true-raw))
 
 union-requires : tie.Need-union-requires
 union-requires c κs = search rules
@@ -43,17 +43,17 @@ union-requires c κs = search rules
 given-requires : tie.Need-given-requires
 given-requires c κs = search rules
 
-returns-3 : tie.Need-returns-3
+returns-3 : tie.Need-returns
 returns-3 c =
-    let f = c.before.before in
-    let e = f.before.before in
-    let a = e.before.before.before.before.before.args in
+    let f = c in
+    let e = f in
+    let a = e.args in
     let p = plant_of a.plant.now in
     c.given.ensures
-    ∙ ap (λ (gone : ℕ). first_of (mask_fault p gone) (room_fault p a.room a.drops)) c.before.union.ensures
+    ∙ ap (λ (gone : ℕ). first_of (mask_fault p gone) (room_fault p a.room a.drops)) c.union.ensures
     ∙ sym
-    (list_given a.plant.now a.book.now a.masks.now a.room a.drops (lent_none e)
-    (sym f.before.whole-masks.ensures ∙ not-false _ f.if2.false))
+    (list_given a.plant.now a.book.now a.masks.now a.room a.drops (lent_none e.before.before.before.before)
+    (sym f.whole_masks.ensures ∙ not-false _ f.if-not-whole_masks.false-raw))
 
 pub withdraw_list_spec : {M : Type 1} → statement M
 withdraw_list_spec =

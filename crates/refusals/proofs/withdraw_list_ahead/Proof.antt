@@ -8,24 +8,24 @@ use borrow.Author.Rules.{rules}
 use Rattle.refusals.proofs.withdraw_list_ahead.Statement.{statement}
 use Rattle.refusals.proofs.withdraw_list_ahead.Tie as tie
 
-whole-masks-requires : tie.Need-whole-masks-requires
+whole-masks-requires : tie.Need-whole_masks-requires
 whole-masks-requires c κs = search rules
 
 union-requires : tie.Need-union-requires
 union-requires c κs = search rules
 
-withdraw-ahead-requires : tie.Need-withdraw-ahead-requires
+withdraw-ahead-requires : tie.Need-withdraw_ahead-requires
 withdraw-ahead-requires c κs = search rules
 
 returns : tie.Need-returns
 unfolding list_ahead
 returns c =
-    let w = c.before.before in
-    let a = w.before.before.before.before.args in
-    ap₂ (λ (t u : Bool). t && u) w.whole-masks.ensures
-    (c.withdraw-ahead.ensures
+    let w = c in
+    let a = w.args in
+    ap₂ (λ (t u : Bool). t && u) w.whole_masks.ensures
+    (c.withdraw_ahead.ensures
     ∙ ap (λ (gone : ℕ). withdraw_ahead a.plant.now a.book.now gone a.room a.drops)
-    c.before.union.ensures)
+    c.union.ensures)
 
 pub withdraw_list_ahead_spec : {M : Type 1} → statement M
 withdraw_list_ahead_spec =

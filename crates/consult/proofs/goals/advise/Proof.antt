@@ -12,28 +12,28 @@ use Rattle.consult.proofs.goals.advise.Tie as tie
 relies : (s : tie.Start) → Fine s.args.book.now s.args.state s.args.goal
 relies s = fine s.args.book.now s.args.state s.args.goal s.requires.0
 
-arrive-requires : tie.Need-arrive-requires
+arrive-requires : tie.Need-arrive-at-requires
 arrive-requires c κs = (relies c.before).goal
 
-move-at-requires : tie.Need-move-at-requires
+move-at-requires : tie.Need-move_at-requires
 move-at-requires c κs = search rules
 
-wait-at-requires : tie.Need-wait-at-requires
+wait-at-requires : tie.Need-wait_at-requires
 wait-at-requires c κs = search rules
 
-cast-t7 : tie.Need-overflow-cast-t7
+cast-t7 : tie.Need-overflow_cast-result
 cast-t7 c =
-    let a = c.before.before in
-    let s = a.before.before in
-    let below = arrive_below s.args.book.now s.args.state s.args.goal (relies s).goal in
-    omega (arith, a.arrive.ensures, (relies s).head.sizes.goals_most)
+    let a = c in
+    let s = a in
+    let below = arrive_below s.args.book.now s.args.state s.args.goal (relies s.before.before.before.before).goal in
+    omega (arith, a.arrive-at.ensures, (relies s.before.before.before.before).head.sizes.goals_most)
 
 returns : tie.Need-returns
 returns c =
-    let a = c.before.before in
-    let s = a.before.before in
+    let a = c in
+    let s = a in
     says_kept s.args.book.now s.args.state s.args.goal s.requires.0 s.requires.1 _ _ _
-    c.before.move_at.ensures c.wait-at.ensures a.arrive.ensures
+    c.move_at.ensures c.wait_at.ensures a.arrive-at.ensures
 
 pub advise_spec : {M : Type 1} → statement M
 advise_spec = tie.close (tie.spec arrive-requires move-at-requires wait-at-requires cast-t7 returns)

@@ -5,19 +5,19 @@ use Rattle.consult.proofs.Consulted.{says_lost}
 use Rattle.consult.proofs.goals.answer.Statement.{statement}
 use Rattle.consult.proofs.goals.answer.Tie as tie
 
-is-lost-requires : tie.Need-is-lost-requires
+is-lost-requires : tie.Need-is_lost-requires
 is-lost-requires c κs = search rules
 
-returns : tie.Need-returns
+returns : tie.Need-returns-then-is_lost
 returns c =
-    let start = c.before.before.before in
-    let lost = sym c.before.is_lost.ensures ∙ c.if1.true in
+    let start = c in
+    let lost = sym c.is_lost.ensures ∙ c.if-is_lost.true in
     says_lost start.args.book.now start.args.state start.args.goal start.requires lost
 
 advise-requires : tie.Need-advise-requires
-advise-requires c κs = (c.before.before.before.requires, sym c.before.is_lost.ensures ∙ c.if1.false)
+advise-requires c κs = (c.requires, sym c.is_lost.ensures ∙ c.if-is_lost.false)
 
-returns-2 : tie.Need-returns-2
+returns-2 : tie.Need-returns
 returns-2 c = search rules
 
 pub answer_spec : {M : Type 1} → statement M

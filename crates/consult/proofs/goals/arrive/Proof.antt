@@ -9,58 +9,58 @@ use Rattle.consult.proofs.Arriving.{Passing, pass_start, pass_below, pass_stop, 
 use Rattle.consult.proofs.goals.arrive.Statement.{statement}
 use Rattle.consult.proofs.goals.arrive.Tie as tie
 
-abbrev invariant-loop : tie.invariant-loop
-invariant-loop book state goal goals at₀ passed₀ at passed = Passing book state goal goals at passed
+abbrev invariant-loop-passed : tie.invariant-loop-passed
+invariant-loop-passed book state goal goals at₀ passed₀ at passed = Passing book state goal goals at passed
 
-abbrev decreases-loop : tie.decreases-loop
-decreases-loop book state goal goals at₀ passed₀ at passed = goals - passed
+abbrev decreases-loop-passed : tie.decreases-loop-passed
+decreases-loop-passed book state goal goals at₀ passed₀ at passed = goals - passed
 
-number-requires : tie.Need-number-requires invariant-loop decreases-loop
+number-requires : tie.Need-number-goals-requires invariant-loop-passed decreases-loop-passed
 number-requires c κs = search rules
 
-cast-goals : tie.Need-overflow-cast-goals invariant-loop decreases-loop
+cast-goals : tie.Need-overflow_cast-goals invariant-loop-passed decreases-loop-passed
 cast-goals c = search rules
 
-loop-holds : tie.Need-loop-init invariant-loop decreases-loop
+loop-holds : tie.Need-loop-passed-init invariant-loop-passed decreases-loop-passed
 unfolding book_goals
 loop-holds c =
-    let s = c.before.before in
-    pass_start s.args.book.now s.args.state s.args.goal c.number.result c.number.ensures
-    (omega (arith, s.requires, c.number.ensures))
+    let s = c in
+    pass_start s.args.book.now s.args.state s.args.goal c.number-goals.result c.number-goals.ensures
+    (omega (arith, s.requires, c.number-goals.ensures))
 
-wait-at-requires : tie.Need-wait-at-requires invariant-loop decreases-loop
+wait-at-requires : tie.Need-wait_at-requires invariant-loop-passed decreases-loop-passed
 wait-at-requires c κs = search rules
 
-returns : tie.Need-returns invariant-loop decreases-loop
+returns : tie.Need-returns-then-wait_at-ne0 invariant-loop-passed decreases-loop-passed
 returns c =
-    let turn = c.before.before in
-    pass_stop turn.before.loop.invariant turn.loop-test.true
-    (λ none. c.if1.true (c.before.wait-at.ensures ∙ none))
+    let turn = c in
+    pass_stop turn.loop-passed.invariant turn.loop-passed-test.true
+    (λ none. c.if-wait_at-ne0.true (c.wait_at.ensures ∙ none))
 
-next-goal-requires : tie.Need-next-goal-requires invariant-loop decreases-loop
-next-goal-requires c κs = pass_below c.before.before.before.loop.invariant
+next-goal-requires : tie.Need-next_goal-at-requires invariant-loop-passed decreases-loop-passed
+next-goal-requires c κs = pass_below c.loop-passed.invariant
 
-add-passed : tie.Need-overflow-add-passed invariant-loop decreases-loop
+add-passed : tie.Need-overflow_add-passed invariant-loop-passed decreases-loop-passed
 add-passed c = omega arith
 
-loop-less : tie.Need-loop-smaller invariant-loop decreases-loop
+loop-less : tie.Need-loop-passed-smaller invariant-loop-passed decreases-loop-passed
 loop-less c = omega arith
 
-loop-again : tie.Need-loop-preserved invariant-loop decreases-loop
+loop-again : tie.Need-loop-passed-preserved invariant-loop-passed decreases-loop-passed
 loop-again c =
-    let turn = c.before.before.before in
-    pass_on turn.before.loop.invariant turn.loop-test.true
-    (sym c.before.before.wait-at.ensures ∙ c.before.if1.false) _ c.next-goal.ensures
+    let turn = c in
+    pass_on turn.loop-passed.invariant turn.loop-passed-test.true
+    (sym c.wait_at.ensures ∙ c.if-wait_at-ne0.false) _ c.next_goal-at.ensures
 
-returns-2 : tie.Need-returns-2 invariant-loop decreases-loop
-returns-2 c = pass_end c.before.loop.invariant c.loop-test.false
+returns-2 : tie.Need-returns invariant-loop-passed decreases-loop-passed
+returns-2 c = pass_end c.loop-passed.invariant c.loop-passed-test.false
 
 pub arrive_spec : {M : Type 1} → statement M
 arrive_spec =
     tie.close
     (tie.spec
-    invariant-loop
-    decreases-loop
+    invariant-loop-passed
+    decreases-loop-passed
     number-requires
     cast-goals
     loop-holds

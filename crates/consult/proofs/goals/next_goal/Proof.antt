@@ -5,21 +5,21 @@ use Rattle.consult.proofs.Arriving.{next_first, next_on}
 use Rattle.consult.proofs.goals.next_goal.Statement.{statement}
 use Rattle.consult.proofs.goals.next_goal.Tie as tie
 
-add-if1 : tie.Need-overflow-add-if1
+add-if1 : tie.Need-overflow_add-goal
 add-if1 c = search rules
 
-returns : tie.Need-returns
+returns : tie.Need-returns-then-goal-goals
 returns c =
-    let a = c.before.args in
-    sym (next_first a.goals a.goal c.if1.true)
+    let a = c.args in
+    sym (next_first a.goals a.goal c.if-goal-goals.true)
 
-add-result : tie.Need-overflow-add-result
+add-result : tie.Need-overflow_add-result
 add-result c = search rules
 
-returns-2 : tie.Need-returns-2
+returns-2 : tie.Need-returns
 returns-2 c =
-    let s = c.before in
-    sym (next_on s.args.goals s.args.goal s.requires c.if1.false)
+    let s = c in
+    sym (next_on s.args.goals s.args.goal s.requires c.if-goal-goals.false)
 
 pub next_goal_spec : {M : Type 1} → statement M
 next_goal_spec = tie.close (tie.spec add-if1 returns add-result returns-2)

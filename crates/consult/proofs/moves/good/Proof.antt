@@ -8,48 +8,48 @@ use borrow.Author.Rules.{rules}
 use Rattle.consult.proofs.moves.good.Statement.{statement}
 use Rattle.consult.proofs.moves.good.Tie as tie
 
-is-lost-requires : tie.Need-is-lost-requires
+is-lost-requires : tie.Need-is_lost-requires
 is-lost-requires c κs = search rules
 
-returns : tie.Need-returns
+returns : tie.Need-returns-then-is_lost
 returns c =
-    let a = c.before.before.before.before.args in
+    let a = c.args in
     sym (good_lost (plant_of a.plant.now) a.book.now a.state a.goal
-    (sym c.before.is_lost.ensures ∙ c.if1.true))
+    (sym c.is_lost.ensures ∙ c.if-is_lost.true))
 
 staged-requires : tie.Need-staged-requires
 staged-requires c κs = search rules
 
-moves-into-requires : tie.Need-moves-into-requires
+moves-into-requires : tie.Need-moves_into-earlier-requires
 moves-into-requires c κs = search rules
 
-returns-2 : tie.Need-returns-2
+returns-2 : tie.Need-returns-then-earlier-ne0
 returns-2 c =
-    let m = c.before in
-    let then = m.before in
-    let g = then.before in
-    let l = g.before.before in
-    let a = l.before.before.before.args in
+    let m = c in
+    let then = m in
+    let g = then in
+    let l = g in
+    let a = l.args in
     good-early (plant_of a.plant.now) a.book.now a.state a.goal
-    (sym l.is_lost.ensures ∙ g.before.if1.false) (sym g.staged.ensures ∙ then.if2.true)
-    m.moves-into.ensures c.if3.true
+    (sym l.is_lost.ensures ∙ g.if-is_lost.false) (sym g.staged.ensures ∙ then.if-staged.true)
+    m.moves_into-earlier.ensures c.if-earlier-ne0.true
 
-moves-into-requires-2 : tie.Need-moves-into-requires-2
+moves-into-requires-2 : tie.Need-moves_into-requires
 moves-into-requires-2 c κs = search rules
 
-returns-3 : tie.Need-returns-3
+returns-3 : tie.Need-returns
 returns-3 c =
-    let j = c.before in
-    let g = j.before in
-    let l = g.before.before in
-    let a = l.before.before.before.args in
-    let kept = sym l.is_lost.ensures ∙ g.before.if1.false in
+    let j = c in
+    let g = j in
+    let l = g in
+    let a = l.args in
+    let kept = sym l.is_lost.ensures ∙ g.if-is_lost.false in
     ⊎_elim
     (λ yes. good-onward (plant_of a.plant.now) a.book.now a.state a.goal kept
-    (sym g.staged.ensures ∙ yes.0.taken) yes.1.ensures yes.2.left c.moves-into2.ensures)
+    (sym g.staged.ensures ∙ yes.if-staged.true) yes.moves_into-earlier.ensures yes.if-earlier-ne0.false c.moves_into.ensures)
     (λ no. good_plain (plant_of a.plant.now) a.book.now a.state a.goal kept
-    (sym g.staged.ensures ∙ no.left) c.moves-into2.ensures)
-    j.if2.branch
+    (sym g.staged.ensures ∙ no.if-staged.false) c.moves_into.ensures)
+    j.if-staged.branch-raw
 
 pub good_spec : {M : Type 1} → statement M
 good_spec =

@@ -14,34 +14,34 @@ use Rattle.consult.proofs.moves.nearer.Tie as tie
 number-requires : tie.Need-number-requires
 number-requires c κs = search rules
 
-cast-if1 : tie.Need-overflow-cast-if1
+cast-if1 : tie.Need-overflow_cast-number
 cast-if1 c = search rules
 
-returns : tie.Need-returns
+returns : tie.Need-returns-then-number-end
 unfolding book_states
 returns c =
-    let a = c.before.before.before.args in
+    let a = c.args in
     sym (nearer_past a.book.now a.stage a.wait a.goal a.early a.end
-    (omega (arith, c.before.number.ensures)))
+    (omega (arith, c.number.ensures)))
 
-stage-at-requires : tie.Need-stage-at-requires
+stage-at-requires : tie.Need-stage_at-there-requires
 stage-at-requires c κs = search rules
 
-wait-at-requires : tie.Need-wait-at-requires
+wait-at-requires : tie.Need-wait_at-requires
 wait-at-requires c κs = search rules
 
-is-lost-requires : tie.Need-is-lost-requires
+is-lost-requires : tie.Need-is_lost-requires
 is-lost-requires c κs = search rules
 
-returns-2 : tie.Need-returns-2
+returns-2 : tie.Need-returns
 unfolding book_states
 returns-2 c =
-    let n = c.before.before.before.before in
-    let a = n.before.before.args in
+    let n = c in
+    let a = n.args in
     let near : ℕ → ℕ → Bool = λ v w. ltb v a.stage
     || (not a.early && (eqb v a.stage && (eqb a.wait 0 || ltb w a.wait))) in
     ap₂ (λ (lost near : Bool). not lost && near) c.is_lost.ensures
-    (ap₂ near c.before.before.Stage-at.ensures c.before.wait-at.ensures)
+    (ap₂ near c.stage_at-there.ensures c.wait_at.ensures)
     ∙ sym (nearer_state a.book.now a.stage a.wait a.goal a.early a.end
     (omega (arith, n.number.ensures)))
 

@@ -11,72 +11,63 @@ use borrow.Author.Rules.{rules}
 use Rattle.listing.proofs.text.put_head.Statement.{statement}
 use Rattle.listing.proofs.text.put_head.Tie as tie
 
-number-requires : tie.Need-number-requires
+number-requires : tie.Need-number-kept-requires
 number-requires c κs = search rules
 
-cast-kept : tie.Need-overflow-cast-kept
+cast-kept : tie.Need-overflow_cast-kept
 cast-kept c = search rules
 
-number-requires-2 : tie.Need-number-requires-2
+number-requires-2 : tie.Need-number-states-requires
 number-requires-2 c κs = search rules
 
-cast-states : tie.Need-overflow-cast-states
+cast-states : tie.Need-overflow_cast-states
 cast-states c = search rules
 
-mask-requires : tie.Need-mask-requires
+mask-requires : tie.Need-mask-in_service-requires
 mask-requires c κs = search rules
 
 returns : tie.Need-returns
 unfolding head_text of_text kept_text moves_text book_count book_states
 returns c =
-    let second = c.before.before.before.before.before.before.before in
-    let first = second.before.before.before.before.before in
-    let read = first.before.before.before in
-    rw (← read.before.before.number.ensures, ← read.before.number2.ensures, ← read.mask.ensures)
-    (wrote_then first.put-figure.ensures
-    (wrote_then second.put-figure2.ensures c.before.before.put-figure3.ensures))
+    let second = c in
+    let first = second in
+    let read = first in
+    rw (← read.number-kept.ensures, ← read.number-states.ensures, ← read.mask-in_service.ensures)
+    (wrote_then first.put_figure-to_states.ensures
+    (wrote_then second.put_figure-to_moves.ensures c.put_figure.ensures))
 
 -- the place after the three figures is a usize
-room : (c : tie.After-mask) → length (figure c.before.before.number.result of_text)
-    + (length (figure c.before.number2.result kept_text)
-    + length (figure (ones c.mask.result) moves_text)) < 2 ^ 64
+room : (c : tie.After-mask-in_service) → length (figure c.number-kept.result of_text)
+    + (length (figure c.number-states.result kept_text)
+    + length (figure (ones c.mask-in_service.result) moves_text)) < 2 ^ 64
 unfolding book_count book_states
 room c =
-    rw (c.before.before.number.ensures, c.before.number2.ensures, c.mask.ensures)
-    (rw head_long at c.before.before.before.before.before.requires)
+    rw (c.number-kept.ensures, c.number-states.ensures, c.mask-in_service.ensures)
+    (rw head_long at c.requires)
 
-slice-aggregate-put-figure : tie.Need-slice-aggregate-put-figure
-slice-aggregate-put-figure c = search rules
-
-put-figure-requires : tie.Need-put-figure-requires
+put-figure-requires : tie.Need-put_figure-to_states-requires
 unfolding of_text
-put-figure-requires c κs = omega (arith, room c.before.before)
+put-figure-requires c κs = omega (arith, room c.before.before.before)
 
-slice-aggregate-put-figure-2 : tie.Need-slice-aggregate-put-figure-2
-slice-aggregate-put-figure-2 c = search rules
-
-put-figure-requires-2 : tie.Need-put-figure-requires-2
+put-figure-requires-2 : tie.Need-put_figure-to_moves-requires
 unfolding of_text kept_text
 put-figure-requires-2 c κs =
-    let first = c.before.before.before.before in
-    omega (arith, room first.before.before.before, first.put-figure.ensures.place)
+    let first = c in
+    omega (arith, room first.before.before.before.before.before.before.before.before.before, first.put_figure-to_states.ensures.place)
 
-slice-aggregate-put-figure-3 : tie.Need-slice-aggregate-put-figure-3
-slice-aggregate-put-figure-3 c = search rules
-
-put-figure-requires-3 : tie.Need-put-figure-requires-3
+put-figure-requires-3 : tie.Need-put_figure-requires
 unfolding of_text kept_text moves_text
 put-figure-requires-3 c κs =
-    let second = c.before.before.before.before in
-    let first = second.before.before.before.before.before in
+    let second = c in
+    let first = second in
     omega (
       arith,
-      room first.before.before.before,
-      first.put-figure.ensures.place,
-      second.put-figure2.ensures.place,
+      room first.before.before.before.before.before.before.before.before.before.before.before.before.before.before.before,
+      first.put_figure-to_states.ensures.place,
+      second.put_figure-to_moves.ensures.place,
     )
 
-same_length : tie.Need-same-length
+same_length : tie.Need-shape_of-out
 same_length c = search rules
 
 pub put_head_spec : {M : Type 1} → statement M
@@ -88,11 +79,8 @@ put_head_spec =
     number-requires-2
     cast-states
     mask-requires
-    slice-aggregate-put-figure
     put-figure-requires
-    slice-aggregate-put-figure-2
     put-figure-requires-2
-    slice-aggregate-put-figure-3
     put-figure-requires-3
     same_length
     returns)

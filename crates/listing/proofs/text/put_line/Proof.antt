@@ -9,85 +9,73 @@ use borrow.Author.Rules.{rules}
 use Rattle.listing.proofs.text.put_line.Statement.{statement}
 use Rattle.listing.proofs.text.put_line.Tie as tie
 
-wait-at-requires : tie.Need-wait-at-requires
+wait-at-requires : tie.Need-wait_at-wait-requires
 wait-at-requires c κs = search rules
 
-cast-wait : tie.Need-overflow-cast-wait
+cast-wait : tie.Need-overflow_cast-wait
 cast-wait c = search rules
 
-move-at-requires : tie.Need-move-at-requires
+move-at-requires : tie.Need-move_at-action-requires
 move-at-requires c κs = search rules
 
-cast-action : tie.Need-overflow-cast-action
+cast-action : tie.Need-overflow_cast-action
 cast-action c = search rules
 
 returns : tie.Need-returns
 unfolding line_text space newline
 returns c =
-    let third = c.before.before.before.before.before.before.before in
-    let second = third.before.before.before.before.before in
-    let first = second.before.before.before.before.before in
-    let read = first.before.before.before in
-    rw (← read.before.wait-at.ensures, ← read.move_at.ensures)
-    (wrote_then first.put-figure.ensures
-    (wrote_then second.put-figure2.ensures
-    (wrote_then third.put-figure3.ensures c.before.before.put-figure4.ensures)))
+    let third = c in
+    let second = third in
+    let first = second in
+    let read = first in
+    rw (← read.wait_at-wait.ensures, ← read.move_at-action.ensures)
+    (wrote_then first.put_figure-to_goal.ensures
+    (wrote_then second.put_figure-to_wait.ensures
+    (wrote_then third.put_figure-to_move.ensures c.put_figure.ensures)))
 
 -- the place after the four figures is a usize
-room : (c : tie.After-move-at) → let a = c.before.before.before.before.args in
+room : (c : tie.After-move_at-action) → let a = c.args in
     a.at + (length (figure a.state space) + (length (figure a.goal space)
-    + (length (figure c.before.wait-at.result space) + length (figure c.move_at.result newline)))) < 2 ^ 64
+    + (length (figure c.wait_at-wait.result space) + length (figure c.move_at-action.result newline)))) < 2 ^ 64
 room c =
-    rw (c.before.wait-at.ensures, c.move_at.ensures, ← line_long) c.before.before.before.before.requires
+    rw (c.wait_at-wait.ensures, c.move_at-action.ensures, ← line_long) c.requires
 
-slice-aggregate-put-figure : tie.Need-slice-aggregate-put-figure
-slice-aggregate-put-figure c = search rules
-
-put-figure-requires : tie.Need-put-figure-requires
+put-figure-requires : tie.Need-put_figure-to_goal-requires
 unfolding space
-put-figure-requires c κs = omega (arith, room c.before.before)
+put-figure-requires c κs = omega (arith, room c.before.before.before)
 
-slice-aggregate-put-figure-2 : tie.Need-slice-aggregate-put-figure-2
-slice-aggregate-put-figure-2 c = search rules
-
-put-figure-requires-2 : tie.Need-put-figure-requires-2
+put-figure-requires-2 : tie.Need-put_figure-to_wait-requires
 unfolding space
 put-figure-requires-2 c κs =
-    let first = c.before.before.before.before in
-    omega (arith, room first.before.before.before, first.put-figure.ensures.place)
+    let first = c in
+    omega (arith, room first.before.before.before.before.before.before.before.before.before, first.put_figure-to_goal.ensures.place)
 
 -- and so it is from the third figure's place on
-room_left : (c : tie.After-put-figure2)
-    → let read = c.before.before.before.before.before.before.before.before in
-    c.put-figure2.result + (length (figure read.before.wait-at.result space)
-    + length (figure read.move_at.result newline)) < 2 ^ 64
+room_left : (c : tie.After-put_figure-to_wait)
+    → let read = c in
+    c.put_figure-to_wait.result + (length (figure read.wait_at-wait.result space)
+    + length (figure read.move_at-action.result newline)) < 2 ^ 64
 unfolding space
 room_left c =
-    let first = c.before.before.before.before.before in
+    let first = c in
     omega (
       arith,
-      room first.before.before.before,
-      first.put-figure.ensures.place,
-      c.put-figure2.ensures.place,
+      room first.before.before.before.before.before.before.before.before.before.before,
+      first.put_figure-to_goal.ensures.place,
+      c.put_figure-to_wait.ensures.place,
     )
 
-slice-aggregate-put-figure-3 : tie.Need-slice-aggregate-put-figure-3
-slice-aggregate-put-figure-3 c = search rules
-
-put-figure-requires-3 : tie.Need-put-figure-requires-3
+put-figure-requires-3 : tie.Need-put_figure-to_move-requires
 unfolding space
-put-figure-requires-3 c κs = omega (arith, room_left c.before.before.before.before)
+put-figure-requires-3 c κs = omega (arith, room_left c.before.before.before.before.before)
 
-slice-aggregate-put-figure-4 : tie.Need-slice-aggregate-put-figure-4
-slice-aggregate-put-figure-4 c = search rules
-
-put-figure-requires-4 : tie.Need-put-figure-requires-4
+put-figure-requires-4 : tie.Need-put_figure-requires
 unfolding space newline
 put-figure-requires-4 c κs =
-    let third = c.before.before.before.before in
-    omega (arith, room_left third.before.before.before.before.before, third.put-figure3.ensures.place)
+    let third = c in
+    omega (arith, room_left third.before.before.before.before.before.before.before.before.before.before.before, third.put_figure-to_move.ensures.place)
 
-same_length : tie.Need-same-length
+same_length : tie.Need-shape_of-out
 same_length c = search rules
 
 pub put_line_spec : {M : Type 1} → statement M
@@ -98,13 +86,9 @@ put_line_spec =
     cast-wait
     move-at-requires
     cast-action
-    slice-aggregate-put-figure
     put-figure-requires
-    slice-aggregate-put-figure-2
     put-figure-requires-2
-    slice-aggregate-put-figure-3
     put-figure-requires-3
-    slice-aggregate-put-figure-4
     put-figure-requires-4
     same_length
     returns)

@@ -13,80 +13,76 @@ use Rattle.listing.proofs.Texts.{state_lost, state_held}
 use Rattle.listing.proofs.text.put_state.Statement.{statement}
 use Rattle.listing.proofs.text.put_state.Tie as tie
 
-abbrev invariant-loop : tie.invariant-loop
-invariant-loop out₀ at book state goals next₀ goal₀ out next goal =
+abbrev invariant-loop-goal : tie.invariant-loop-goal
+invariant-loop-goal out₀ at book state goals next₀ goal₀ out next goal =
     PartsLeft (line_text book state) goals out₀ at goal next out
 
-abbrev decreases-loop : tie.decreases-loop
-decreases-loop out₀ at book state goals next₀ goal₀ out next goal = goals - goal
+abbrev decreases-loop-goal : tie.decreases-loop-goal
+decreases-loop-goal out₀ at book state goals next₀ goal₀ out next goal = goals - goal
 
 -- the text of a lost state, and of one that is not
-lost : (c : tie.Then1 invariant-loop decreases-loop) → let a = c.before.before.before.before.args in
+lost : (c : tie.Then-is_lost invariant-loop-goal decreases-loop-goal) → let a = c.args in
     state_text a.book.now a.state ≡ figure a.state lost_text
-lost c = state_lost _ _ (sym c.before.is_lost.ensures ∙ c.if1.true)
+lost c = state_lost _ _ (sym c.is_lost.ensures ∙ c.if-is_lost.true)
 
-held : (c : tie.After-number invariant-loop decreases-loop) → let a = c.before.before.before.before.before.args in
-    state_text a.book.now a.state ≡ joined c.number.result 0 (line_text a.book.now a.state)
+held : (c : tie.After-number-goals invariant-loop-goal decreases-loop-goal) → let a = c.args in
+    state_text a.book.now a.state ≡ joined c.number-goals.result 0 (line_text a.book.now a.state)
 unfolding book_goals
-held c = state_held _ _ _ (sym c.before.before.is_lost.ensures ∙ c.before.if1.false) c.number.ensures
+held c = state_held _ _ _ (sym c.is_lost.ensures ∙ c.if-is_lost.false) c.number-goals.ensures
 
-is-lost-requires : tie.Need-is-lost-requires invariant-loop decreases-loop
+is-lost-requires : tie.Need-is_lost-requires invariant-loop-goal decreases-loop-goal
 is-lost-requires c κs = search rules
 
-slice-aggregate-put-figure : tie.Need-slice-aggregate-put-figure invariant-loop decreases-loop
-slice-aggregate-put-figure c = search rules
-
-put-figure-requires : tie.Need-put-figure-requires invariant-loop decreases-loop
+put-figure-requires : tie.Need-put_figure-requires invariant-loop-goal decreases-loop-goal
 unfolding lost_text
-put-figure-requires c κs = omega (arith, ap length (lost c.before.before))
+put-figure-requires c κs = omega (arith, ap length (lost c.before.before.before))
 
-same_length : tie.Need-same-length invariant-loop decreases-loop
-same_length c = c.before.before.put-figure.auto.0
+same_length : tie.Need-shape_of-out-then-is_lost invariant-loop-goal decreases-loop-goal
+same_length c = c.put_figure.auto.out
 
-returns : tie.Need-returns invariant-loop decreases-loop
+returns : tie.Need-returns-then-is_lost invariant-loop-goal decreases-loop-goal
 unfolding lost_text
-returns c = rw (lost c.before.before.before.before.before) c.before.before.put-figure.ensures
+returns c = rw (lost c.before.before.before.before.before.before) c.put_figure.ensures
 
-number-requires : tie.Need-number-requires invariant-loop decreases-loop
+number-requires : tie.Need-number-goals-requires invariant-loop-goal decreases-loop-goal
 number-requires c κs = search rules
 
-cast-goals : tie.Need-overflow-cast-goals invariant-loop decreases-loop
+cast-goals : tie.Need-overflow_cast-goals invariant-loop-goal decreases-loop-goal
 cast-goals c = omega arith
 
-loop-holds : tie.Need-loop-init invariant-loop decreases-loop
+loop-holds : tie.Need-loop-goal-init invariant-loop-goal decreases-loop-goal
 loop-holds c = parts_start _ _ _ _
 
-put-line-requires : tie.Need-put-line-requires invariant-loop decreases-loop
+put-line-requires : tie.Need-put_line-next-requires invariant-loop-goal decreases-loop-goal
 put-line-requires c κs =
-    let read = c.before.before.before in
-    parts_room c.before.before.loop.invariant (2 ^ 64) c.before.loop-test.true
-    (rw (held read) at read.before.before.before.before.before.requires)
+    let read = c in
+    parts_room c.loop-goal.invariant (2 ^ 64) c.loop-goal-test.true
+    (rw (held read.before.before.before) at read.requires)
 
-add-goal : tie.Need-overflow-add-goal invariant-loop decreases-loop
+add-goal : tie.Need-overflow_add-goal invariant-loop-goal decreases-loop-goal
 add-goal c = omega arith
 
-loop-less : tie.Need-loop-smaller invariant-loop decreases-loop
+loop-less : tie.Need-loop-goal-smaller invariant-loop-goal decreases-loop-goal
 loop-less c = omega arith
 
-loop-again : tie.Need-loop-preserved invariant-loop decreases-loop
+loop-again : tie.Need-loop-goal-preserved invariant-loop-goal decreases-loop-goal
 loop-again c =
-    let turn = c.before.before.before.before in
-    parts_turn turn.before.loop.invariant turn.loop-test.true c.before.before.put-line.ensures
+    let turn = c in
+    parts_turn turn.loop-goal.invariant turn.loop-goal-test.true c.put_line-next.ensures
 
-same-length-2 : tie.Need-same-length-2 invariant-loop decreases-loop
-same-length-2 c = c.before.loop.invariant.left.same
+same-length-2 : tie.Need-shape_of-out invariant-loop-goal decreases-loop-goal
+same-length-2 c = c.loop-goal.invariant.left.same
 
-returns-2 : tie.Need-returns-2 invariant-loop decreases-loop
-returns-2 c = rw (held c.before.before) (parts_end c.before.loop.invariant c.loop-test.false)
+returns-2 : tie.Need-returns invariant-loop-goal decreases-loop-goal
+returns-2 c = rw (held c.before.before) (parts_end c.loop-goal.invariant c.loop-goal-test.false)
 
 pub put_state_spec : {M : Type 1} → statement M
 put_state_spec =
     tie.close
     (tie.spec
-    invariant-loop
-    decreases-loop
+    invariant-loop-goal
+    decreases-loop-goal
     is-lost-requires
-    slice-aggregate-put-figure
     put-figure-requires
     same_length
     returns
