@@ -20,7 +20,7 @@ use Rattle.decoding.proofs.Sizes.{book_fits}
 use Rattle.arrays.specs.Lists.{among}
 use Rattle.arrays.proofs.Ordered.{filter_rising}
 use Rattle.graph.specs.Packed.{accepts}
-use Rattle.solve.proofs.Answers.{accepts-fine}
+use Rattle.solve.proofs.Answers.{accepts_fine}
 use Rattle.refusals.specs.Ahead.{withdraw_ahead}
 use Rattle.refusals.proofs.Ahead.{make_parts, withdraw_passes, passes_states}
 use Rattle.writing.specs.Written.{writable, written_long, written_book}
@@ -83,7 +83,7 @@ unfolding made_book
 made_written indexed index s mask start o room h el eo =
     let p = plant_of s in
     let good = accepts indexed index s in
-    let w = within_written good s mask (allowed p) start o (accepts-fine indexed index s) h room in
+    let w = within_written good s mask (allowed p) start o (accepts_fine indexed index s) h room in
     (el ∙ w.0 ∙ ap (λ (n : ℕ). pick good n 0) (sym (within_length p mask (allowed p))), eo ∙ w.1)
 
 -- and that of a withdrawal the one within the allowed states that the old book keeps, for the old mask less the moves
@@ -103,7 +103,7 @@ withdrawn_written indexed index s b gone o d start old h es em el eo =
     let good = accepts indexed index s in
     let ok = withdraw_passes s b gone (length o) (length d) h in
     let made = make_parts s gone (length o) ok.make in
-    let w = within_written good s (old - bit_and old gone) (kept_before p b) start o (accepts-fine indexed index s)
+    let w = within_written good s (old - bit_and old gone) (kept_before p b) start o (accepts_fine indexed index s)
     (es ∙ kept_before_lem p b (passes_states s b gone (length o) (length d) ok)) made.2 in (
       el ∙ w.0 ∙ ap (λ (n : ℕ). pick good n 0) (sym (withdrawn_length p b gone)),
       eo ∙ w.1 ∙ ap (λ (m : ℕ). pick good (over (book_within p (less_mask m gone) (kept_before p b)) o) o) em,

@@ -52,10 +52,10 @@ neither false b = refl
 
 module _ (good : Bool) (s : List ℕ) (mask : ℕ) (start out : List ℕ) where
   -- it cannot work: the mark, and the bytes stay
-  pub not-solved : solvable good s start out ≡ false
+  pub not_solved : solvable good s start out ≡ false
       → (65535 ≡ solved_count good s mask start out) × (out ≡ solved_rows good s mask start out)
   unfolding solved_count solved_rows
-  not-solved e = (rw e, rw e)
+  not_solved e = (rw e, rw e)
 
   -- it works: the number of kept states, and their rows
   pub solved : solvable good s start out ≡ true
@@ -65,11 +65,11 @@ module _ (good : Bool) (s : List ℕ) (mask : ℕ) (start out : List ℕ) where
   solved e = (rw e, rw e)
 
   -- the rows are worked out: what the solver answers
-  pub done-solved : {r : ℕ} {new : List ℕ} → solvable good s start out ≡ true
+  pub done_solved : {r : ℕ} {new : List ℕ} → solvable good s start out ≡ true
       → r ≡ length (kept_within (plant_of s) mask (among start))
       → new ≡ rows_over (plant_of s) mask (kept_within (plant_of s) mask (among start)) out
       → (r ≡ solved_count good s mask start out) × (new ≡ solved_rows good s mask start out)
-  done-solved e number rows = let answer = solved e in (number ∙ answer.0, rows ∙ answer.1)
+  done_solved e number rows = let answer = solved e in (number ∙ answer.0, rows ∙ answer.1)
 
 -- arrays of these lengths have room for a plant with few arrows
 pub wide_small : (p : Plant) → length p.arrows ≤ 2048 → Wide p 9218 6145
@@ -102,18 +102,18 @@ accepts_fine indexed index s e = eqb-true (plant_fault s) 0 (and_left (eqb (plan
 
 -- by its parts
 module _ (indexed : Bool) (index s : List ℕ) where
-  pub accepts-not : (plant_fault s ≡ 0 → ⊥) → accepts indexed index s ≡ false
+  pub accepts_not : (plant_fault s ≡ 0 → ⊥) → accepts indexed index s ≡ false
   unfolding accepts
-  accepts-not bad = rw (ne_eqb (plant_fault s) 0 bad) refl
+  accepts_not bad = rw (ne_eqb (plant_fault s) 0 bad) refl
 
-  pub accepts-plain : indexed ≡ false → plant_fault s ≡ 0 → accepts indexed index s ≡ true
+  pub accepts_plain : indexed ≡ false → plant_fault s ≡ 0 → accepts indexed index s ≡ true
   unfolding accepts lent
-  accepts-plain e fine = rw (e, eq-eqb (plant_fault s) 0 fine) refl
+  accepts_plain e fine = rw (e, eq-eqb (plant_fault s) 0 fine) refl
 
-  pub accepts-by : indexed ≡ true → plant_fault s ≡ 0 → ((k : ℕ) → get_or index k 0 < 256)
+  pub accepts_by : indexed ≡ true → plant_fault s ≡ 0 → ((k : ℕ) → get_or index k 0 < 256)
       → accepts indexed index s ≡ (head_ok s && ascends (plant_of s) index)
   unfolding accepts lent
-  accepts-by e fine bytes = rw (e, eq-eqb (plant_fault s) 0 fine) (sym (index_exactly s fine index bytes))
+  accepts_by e fine bytes = rw (e, eq-eqb (plant_fault s) 0 fine) (sym (index_exactly s fine index bytes))
 
 -- where there is room for every accepted plant, the arrays are built just if what is lent is accepted
 pub built : (indexed : Bool) (index s table graph : List ℕ) {fits : Bool}
@@ -126,7 +126,7 @@ built indexed index s table graph is wide =
     is ∙ rw t
     (and_true (le-leb 1026 (length table) w.table_long)
     (and_true (le-leb (length (plant_of s).arrows) (table_room (length table)) w.table_room_lem)
-    (and_true (le-leb 2049 (length graph) w.graph-long)
+    (and_true (le-leb 2049 (length graph) w.graph_long)
     (le-leb (length (plant_of s).arrows) (places_in (length graph)) w.graph_room)))))
     (λ f. is ∙ rw f)
     (decided (accepts indexed index s))
@@ -156,16 +156,16 @@ module _ (good : Bool) (s start out : List ℕ) (states long : ℕ) (es : states
     (el : long ≡ book_long (plant_of s).settles (plant_of s).states (plant_of s).goals)
     (rises : Bool) (er : rises ≡ rising 0 states start) where
   -- whether the solver can work, by the tests that the start does not rise or the buffer is too short
-  room-solvable : solvable good s start out ≡ good && not (not rises || ltb (length out) long)
+  room_solvable : solvable good s start out ≡ good && not (not rises || ltb (length out) long)
   unfolding solvable
-  room-solvable =
+  room_solvable =
       rw (← book_rows (plant_of s), ← el, ← es, ← er, leb_not long (length out))
       (ap (λ (b : Bool). good && b) (neither rises (ltb (length out) long)))
 
   -- one holds
-  pub short-unsolvable : not rises || ltb (length out) long ≡ true → solvable good s start out ≡ false
-  short-unsolvable e =
-      room-solvable ∙ ap (λ (b : Bool). good && not b) e ∙ and_none good false refl
+  pub short_unsolvable : not rises || ltb (length out) long ≡ true → solvable good s start out ≡ false
+  short_unsolvable e =
+      room_solvable ∙ ap (λ (b : Bool). good && not b) e ∙ and_none good false refl
 
 and_all : (a : Bool) → (a && true) ≡ a
 and_all true = refl
@@ -182,17 +182,17 @@ fine_solvable good s start out rises room =
 -- no state to start from, and room for the rows
 module _ (good : Bool) (s : List ℕ) (mask : ℕ) (out : List ℕ) (room : 16 + 2 * rows_long (plant_of s) ≤ length out) where
   -- what is lent is refused
-  pub none-unsolved : good ≡ false → (65535 ≡ solved_count good s mask [] out) × (out ≡ solved_rows good s mask [] out)
+  pub none_unsolved : good ≡ false → (65535 ≡ solved_count good s mask [] out) × (out ≡ solved_rows good s mask [] out)
   unfolding rising
-  none-unsolved bad = not-solved good s mask [] out (fine_solvable good s [] out refl room ∙ bad)
+  none_unsolved bad = not_solved good s mask [] out (fine_solvable good s [] out refl room ∙ bad)
 
   -- it is accepted: none is kept, and marks are all rows
-  pub none-solved : {new : List ℕ} → good ≡ true → Rowed (plant_of s) mask [] [] out new
+  pub none_solved : {new : List ℕ} → good ≡ true → Rowed (plant_of s) mask [] [] out new
       → ((k : ℕ) → k < length new → get_or new k 0 < 256)
       → (0 ≡ solved_count good s mask [] out) × (new ≡ solved_rows good s mask [] out)
   unfolding rising
-  none-solved fine rows small =
+  none_solved fine rows small =
       let kept = none_kept (plant_of s) mask in
-      done-solved good s mask [] out (fine_solvable good s [] out refl room ∙ fine) (ap length (sym kept))
+      done_solved good s mask [] out (fine_solvable good s [] out refl room ∙ fine) (ap length (sym kept))
       (rows_bytes (plant_of s) mask [] rows small room
       ∙ ap (λ (ys : List ℕ). rows_over (plant_of s) mask ys out) (sym kept))

@@ -13,7 +13,7 @@ use Rattle.statements.specs.Kept.{kept_within}
 use Rattle.statements.specs.Books.{book_long, head_of, book_within}
 use Rattle.sets.proofs.Tests.{decided, and_true, and_left, and_right}
 use Rattle.solve.specs.Rows.{rows_over, solvable, among, rising, solved_count, solved_rows}
-use Rattle.solve.proofs.Answers.{book_rows, not-solved, solved, done-few}
+use Rattle.solve.proofs.Answers.{book_rows, not_solved, solved, done_few}
 use Rattle.writing.specs.Written.{writable, written_long, written_book}
 use Rattle.writing.proofs.Written.{book_written}
 
@@ -73,12 +73,12 @@ module _ (good : Bool) (s : List ℕ) (mask : ℕ) (start o : List ℕ) (fine : 
   works t = solved good s mask start o (as_solvable good s start o ∙ t)
 
   fails : writable good s start o ≡ false → (65535 ≡ solved_count good s mask start o) × (o ≡ solved_rows good s mask start o)
-  fails t = not-solved good s mask start o (as_solvable good s start o ∙ t)
+  fails t = not_solved good s mask start o (as_solvable good s start o ∙ t)
 
   module _ {r : ℕ} (count : r ≡ solved_count good s mask start o) where
     -- few states are kept
     pub kept_few : writable good s start o ≡ true → r ≤ 1024
-    kept_few t = done-few s mask start (fine (writable_fine good s start o t)) (count ∙ sym (works t).0)
+    kept_few t = done_few s mask start (fine (writable_fine good s start o t)) (count ∙ sym (works t).0)
 
     -- a number other than the mark: the book can be written
     pub has_solved : (r ≡ 65535 → ⊥) → writable good s start o ≡ true

@@ -9,34 +9,34 @@ use Rattle.solve.specs.Rows.{row_size}
 use Rattle.solve.proofs.frame_of.Statement.{statement}
 use Rattle.solve.proofs.frame_of.Tie as tie
 
-number-requires : tie.Need-number-requires
+number-requires : tie.Need-number-goals-requires
 number-requires c κs = search rules
 
-cast-goals : tie.Need-overflow-cast-goals
+cast-goals : tie.Need-overflow_cast-goals
 cast-goals c = search rules
 
-settles-requires : tie.Need-settles-requires
+settles-requires : tie.Need-settles-stages-requires
 settles-requires c κs = search rules
 
-mul-size : tie.Need-overflow-mul-size
+mul-size : tie.Need-overflow_mul-size
 mul-size c = search rules
 
-add-size : tie.Need-overflow-add-size
+add-size : tie.Need-overflow_add-size
 add-size c = search rules
 
-number-requires-2 : tie.Need-number-requires-2
+number-requires-2 : tie.Need-number-requires
 number-requires-2 c κs = search rules
 
-number-requires-3 : tie.Need-number-requires-3
+number-requires-3 : tie.Need-number-requires-2
 number-requires-3 c κs = search rules
 
-cast-t10 : tie.Need-overflow-cast-t10
+cast-t10 : tie.Need-overflow_cast-result
 cast-t10 c = search rules
 
-cast-t11 : tie.Need-overflow-cast-t11
+cast-t11 : tie.Need-overflow_cast-result-2
 cast-t11 c = search rules
 
-cast-t12 : tie.Need-overflow-cast-t12
+cast-t12 : tie.Need-overflow_cast-result-3
 cast-t12 c = search rules
 
 -- the numbers of a row, where the plant settles and where it does not
@@ -53,19 +53,19 @@ sized_plain p e en left is = is ∙ rw (← e, left, en) refl
 returns : tie.Need-returns
 unfolding plant_of
 returns c =
-    let read = c.before.before.before in
-    let settles = read.before.before in
-    let first = settles.before in
-    let s = first.before.before.before in
+    let read = c in
+    let settles = read in
+    let first = settles in
+    let s = first in
     let p = plant_of s.args.plant.now in
-    let n = read.before.number2.ensures in
-    let x = read.number3.ensures in
-    let g = first.before.number.ensures in
-    let z = first.settles.ensures in
-    let size : settles.if1.size ≡ row_size p =
-    elim settles.if1.branch [
-      | inl w ↦ sized_staged p z g w.0.taken w.1
-      | inr w ↦ sized_plain p z g w.0.left w.1
+    let n = read.number.ensures in
+    let x = read.number-2.ensures in
+    let g = first.number-goals.ensures in
+    let z = first.settles-stages.ensures in
+    let size : settles.if-stages.size ≡ row_size p =
+    elim settles.if-stages.branch-raw [
+      | inl w ↦ sized_staged p z g w.if-stages.true w.size-is
+      | inr w ↦ sized_plain p z g w.if-stages.false w.size-is
     ] in
     rw (n, x, g, size, z) refl
 

@@ -2,26 +2,26 @@
 use native.Mathlib.Omega.{arith}
 use borrow.Author.Rules.{rules}
 use Rattle.graph.proofs.Links.{arrows_few}
-use Rattle.solve.proofs.Answers.{wide-large}
+use Rattle.solve.proofs.Answers.{wide_large}
 use Rattle.solve.proofs.large.Statement.{statement}
 use Rattle.solve.proofs.large.Tie as tie
 
-slice-aggregate-within : tie.Need-slice-aggregate-within
+slice-aggregate-within : tie.Need-slice_bounds-within-end
 slice-aggregate-within c = search rules
 
-slice-aggregate-within-2 : tie.Need-slice-aggregate-within-2
+slice-aggregate-within-2 : tie.Need-slice_bounds-within-end-2
 slice-aggregate-within-2 c = search rules
 
 within-requires : tie.Need-within-requires
 within-requires c κs =
-    let s = c.before.before.before.before.before.before.before in
-    (s.requires.0, (s.requires.1, λ fine. wide-large _ (arrows_few _ fine)))
+    let s = c in
+    (s.requires.0, (s.requires.1, λ fine. wide_large _ (arrows_few _ fine)))
 
-same_length : tie.Need-same-length
+same_length : tie.Need-shape_of-out
 same_length c = search rules
 
 returns : tie.Need-returns
-returns c = c.before.before.before.before.within.ensures
+returns c = c.within.ensures
 
 pub large_spec : {M : Type 1} → statement M
 large_spec =

@@ -18,96 +18,96 @@ use Rattle.solve.proofs.solve.Statement.{statement}
 use Rattle.solve.proofs.solve.Tie as tie
 
 -- the function's entry, seen from the number of states; this, seen from the length
-abbrev entry : tie.After-number → tie.Start
+abbrev entry : tie.After-number-states → tie.Start
 entry c = c.before.before.before.before.before
 
-abbrev counted : tie.After-book-long → tie.After-number
+abbrev counted : tie.After-book_long → tie.After-number-states
 counted c = c.before.before
 
-states_are : (c : tie.After-number) → c.number.result ≡ (plant_of (entry c).args.plant.now).states
+states_are : (c : tie.After-number-states) → c.number-states.result ≡ (plant_of (entry c).args.plant.now).states
 unfolding plant_of
-states_are c = c.number.ensures
+states_are c = c.number-states.ensures
 
 -- past the test the start rises, and the buffer is long enough
-fitting : (c : tie.Else1)
+fitting : (c : tie.Else-rises-out)
     → let a = (entry (counted c.before)).args in
     (rising 0 (plant_of a.plant.now).states a.start.now ≡ true)
     × (16 + 2 * rows_long (plant_of a.plant.now) ≤ length a.out.now)
 fitting c =
-    let long = c.before in
-    let number = counted long in
+    let long = c in
+    let number = counted long.before in
     let a = (entry number).args in
-    let tests = or_neither (not long.before.rises.result) (ltb (length a.out.now) long.book_long_lem.result)
-    c.if1.false in
-    let rises = sym long.before.rises.ensures ∙ not-false _ tests.0 in (
+    let tests = or_neither (not long.rises.result) (ltb (length a.out.now) long.book_long.result)
+    c.if-rises-out.false in
+    let rises = sym long.rises.ensures ∙ not-false _ tests.0 in (
       ap (λ (n : ℕ). rising 0 n a.start.now) (sym (states_are number)) ∙ rises,
       omega (
         arith,
-        long.book_long_lem.ensures,
+        long.book_long.ensures,
         laws.book_rows (plant_of a.plant.now),
-        ltb-false (length a.out.now) long.book_long_lem.result tests.1,
+        ltb-false (length a.out.now) long.book_long.result tests.1,
       ),
     )
 
-number-requires : tie.Need-number-requires
+number-requires : tie.Need-number-states-requires
 number-requires c κs = search rules
 
-cast-states : tie.Need-overflow-cast-states
+cast-states : tie.Need-overflow_cast-states
 cast-states c = search rules
 
 rises-requires : tie.Need-rises-requires
 rises-requires c κs = search rules
 
-book-long-requires : tie.Need-book-long-requires
+book-long-requires : tie.Need-book_long-requires
 book-long-requires c κs = search rules
 
-returns : tie.Need-returns
+returns : tie.Need-returns-then-rises-out
 returns c =
-    let long = c.before in
-    let number = counted long in
+    let long = c in
+    let number = counted long.before in
     let a = (entry number).args in
-    laws.not-solved _ a.plant.now a.way.mask a.start.now a.out.now
-    (laws.short-unsolvable _ a.plant.now a.start.now a.out.now number.number.result
-    long.book_long_lem.result (states_are number) long.book_long_lem.ensures _ long.before.rises.ensures
-    c.if1.true)
+    laws.not_solved _ a.plant.now a.way.mask a.start.now a.out.now
+    (laws.short_unsolvable _ a.plant.now a.start.now a.out.now number.number-states.result
+    long.book_long.result (states_are number) long.book_long.ensures _ long.rises.ensures
+    c.if-rises-out.true)
 
 nothing-requires : tie.Need-nothing-requires
 nothing-requires c κs = (fitting c.before.before).1
 
-same_length : tie.Need-same-length
+same_length : tie.Need-shape_of-out-then-start-eq0
 same_length c = search rules
 
-returns-2 : tie.Need-returns-2
+returns-2 : tie.Need-returns-then-start-eq0
 returns-2 c =
-    let call = c.before.before in
-    let e = call.before.before in
-    let a = (entry (counted e.before.before)).args in
-    let none = laws.nothing a.start.now e.if2.true in
+    let call = c in
+    let e = call in
+    let a = (entry (counted e.before.before.before.before.before.before)).args in
+    let none = laws.nothing a.start.now e.if-start-eq0.true in
     (rw none (call.nothing.ensures.0 a.way.mask), rw none (call.nothing.ensures.1 a.way.mask))
 
-number-requires-2 : tie.Need-number-requires-2
+number-requires-2 : tie.Need-number-requires
 number-requires-2 c κs = search rules
 
 small-requires : tie.Need-small-requires
 small-requires c κs =
-    let n = c.before.before in
-    let plant = (entry (counted n.before.before.before)).args.plant.now in
-    (omega (arith, arrows_length plant, n.number2.ensures, c.before.if3.true), fitting n.before.before)
+    let n = c in
+    let plant = (entry (counted n.before.before.before.before.before)).args.plant.now in
+    (omega (arith, arrows_length plant, n.number.ensures, c.if-number-le2048.true), fitting n.before.before.before.before)
 
-same-length-2 : tie.Need-same-length-2
+same-length-2 : tie.Need-shape_of-out-then-number-le2048
 same-length-2 c = search rules
 
-returns-3 : tie.Need-returns-3
-returns-3 c = c.before.before.small.ensures
+returns-3 : tie.Need-returns-then-number-le2048
+returns-3 c = c.small.ensures
 
 large-requires : tie.Need-large-requires
 large-requires c κs = fitting c.before.before.before.before
 
-same-length-3 : tie.Need-same-length-3
+same-length-3 : tie.Need-shape_of-out
 same-length-3 c = search rules
 
-returns-4 : tie.Need-returns-4
-returns-4 c = c.before.before.large.ensures
+returns-4 : tie.Need-returns
+returns-4 c = c.large.ensures
 
 pub solve_spec : {M : Type 1} → statement M
 solve_spec =

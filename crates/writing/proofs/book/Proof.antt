@@ -7,7 +7,7 @@ use native.Mathlib.Omega.{arith}
 use Rattle.statements.specs.Plants.{plant_of, plant_fault}
 use Rattle.decoding.proofs.Faults.{long_few}
 use Rattle.graph.specs.Packed.{accepts}
-use Rattle.solve.proofs.Answers.{book_rows, accepts-fine}
+use Rattle.solve.proofs.Answers.{book_rows, accepts_fine}
 use Rattle.writing.specs.Written.{writable}
 use Rattle.writing.proofs.Solved.{writable_fine, room_of, kept_few, has_solved}
 use Rattle.writing.proofs.Solved.{mark-unwritten, book-done}
@@ -32,13 +32,13 @@ can : (c : tie.Else1)
     writable (good (entry (solved c))) a.plant.now a.start.now a.out.now ≡ true
 can c =
     let a = (entry (solved c)).args in
-    has_solved (good (entry (solved c))) a.plant.now a.way.mask a.start.now a.out.now (accepts-fine _ _ _) (solved c).solve.ensures.0 c.if1.false
+    has_solved (good (entry (solved c))) a.plant.now a.way.mask a.start.now a.out.now (accepts_fine _ _ _) (solved c).solve.ensures.0 c.if1.false
 
 -- so the plant is accepted
 accepted : (c : tie.Else1) → plant_fault (entry (solved c)).args.plant.now ≡ 0
 accepted c =
     let a = (entry (solved c)).args in
-    accepts-fine _ _ _ (writable_fine (good (entry (solved c))) a.plant.now a.start.now a.out.now (can c))
+    accepts_fine _ _ _ (writable_fine (good (entry (solved c))) a.plant.now a.start.now a.out.now (can c))
 
 solve-requires : tie.Need-solve-requires
 solve-requires c κs = search rules
@@ -50,7 +50,7 @@ returns : tie.Need-returns
 returns c =
     let v = c.before.before.before in
     let a = (entry v).args in
-    mark-unwritten (good (entry v)) a.plant.now a.way.mask a.start.now a.out.now (accepts-fine _ _ _) v.solve.ensures.0
+    mark-unwritten (good (entry v)) a.plant.now a.way.mask a.start.now a.out.now (accepts_fine _ _ _) v.solve.ensures.0
     v.solve.ensures.1 c.if1.true
 
 cast-head : tie.Need-overflow-cast-head
@@ -58,7 +58,7 @@ cast-head c =
     let a = (entry (solved c)).args in
     omega (
       arith,
-      kept_few (good (entry (solved c))) a.plant.now a.way.mask a.start.now a.out.now (accepts-fine _ _ _) (solved c).solve.ensures.0 (can c),
+      kept_few (good (entry (solved c))) a.plant.now a.way.mask a.start.now a.out.now (accepts_fine _ _ _) (solved c).solve.ensures.0 (can c),
     )
 
 head-requires : tie.Need-head-requires
@@ -92,7 +92,7 @@ returns-2 c =
     let e = h.before.before in
     let v = solved e in
     let a = (entry v).args in
-    book-done (good (entry v)) a.plant.now a.way.mask a.start.now a.out.now (accepts-fine _ _ _) v.solve.ensures.0
+    book-done (good (entry v)) a.plant.now a.way.mask a.start.now a.out.now (accepts_fine _ _ _) v.solve.ensures.0
     v.solve.ensures.1 (can e) c.book_long_lem.ensures h.head.ensures
 
 pub book_spec : {M : Type 1} → statement M

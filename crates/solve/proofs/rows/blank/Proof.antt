@@ -6,45 +6,45 @@ use Rattle.solve.proofs.RowMarks.{Blanked, blank_none, blank_next, blank_all}
 use Rattle.solve.proofs.rows.blank.Statement.{statement}
 use Rattle.solve.proofs.rows.blank.Tie as tie
 
-abbrev invariant-loop : tie.invariant-loop
-invariant-loop plant count out₀ stop at₀ out at = Blanked out₀ out at × (at ≤ stop)
+abbrev invariant-loop-at : tie.invariant-loop-at
+invariant-loop-at plant count out₀ stop at₀ out at = Blanked out₀ out at × (at ≤ stop)
 
-abbrev decreases-loop : tie.decreases-loop
-decreases-loop plant count out₀ stop at₀ out at = stop - at
+abbrev decreases-loop-at : tie.decreases-loop-at
+decreases-loop-at plant count out₀ stop at₀ out at = stop - at
 
-mul-stop : tie.Need-overflow-mul-stop invariant-loop decreases-loop
+mul-stop : tie.Need-overflow_mul-stop invariant-loop-at decreases-loop-at
 mul-stop c = omega arith
 
-add-stop : tie.Need-overflow-add-stop invariant-loop decreases-loop
+add-stop : tie.Need-overflow_add-stop invariant-loop-at decreases-loop-at
 add-stop c = omega arith
 
-loop-holds : tie.Need-loop-init invariant-loop decreases-loop
+loop-holds : tie.Need-loop-at-init invariant-loop-at decreases-loop-at
 loop-holds c = (blank_none _, omega arith)
 
-slice-write-out : tie.Need-slice-write-out invariant-loop decreases-loop
-slice-write-out c = omega (arith, c.before.loop.invariant.0.long)
+slice-write-out : tie.Need-bounds-out-at invariant-loop-at decreases-loop-at
+slice-write-out c = omega (arith, c.loop-at.invariant.0.long)
 
-add_at : tie.Need-overflow-add-at invariant-loop decreases-loop
+add_at : tie.Need-overflow_add-at invariant-loop-at decreases-loop-at
 add_at c = omega arith
 
-loop-less : tie.Need-loop-smaller invariant-loop decreases-loop
+loop-less : tie.Need-loop-at-smaller invariant-loop-at decreases-loop-at
 loop-less c = omega arith
 
-loop-again : tie.Need-loop-preserved invariant-loop decreases-loop
-loop-again c = (blank_next c.before.loop.invariant.0 (omega (arith, c.before.before.requires.1)), omega arith)
+loop-again : tie.Need-loop-at-preserved invariant-loop-at decreases-loop-at
+loop-again c = (blank_next c.loop-at.invariant.0 (omega (arith, c.requires.1)), omega arith)
 
-same_length : tie.Need-same-length invariant-loop decreases-loop
-same_length c = c.before.loop.invariant.0.long
+same_length : tie.Need-shape_of-out invariant-loop-at decreases-loop-at
+same_length c = c.loop-at.invariant.0.long
 
-returns : tie.Need-returns invariant-loop decreases-loop
-returns c mask kept = blank_all _ mask kept c.before.loop.invariant.0 (omega arith)
+returns : tie.Need-returns invariant-loop-at decreases-loop-at
+returns c mask kept = blank_all _ mask kept c.loop-at.invariant.0 (omega arith)
 
 pub blank_spec : {M : Type 1} → statement M
 blank_spec =
     tie.close
     (tie.spec
-    invariant-loop
-    decreases-loop
+    invariant-loop-at
+    decreases-loop-at
     mul-stop
     add-stop
     loop-holds

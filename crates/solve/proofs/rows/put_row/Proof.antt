@@ -22,34 +22,34 @@ inside : (s : tie.Start)
 inside s = row_fits (plant_of s.args.plant.now) s.requires.1.0.1.1 s.args.state s.requires.1.1.1.0
 
 -- the function's entry, seen from the test and from behind it
-abbrev start : tie.After-struct-known → tie.Start
+abbrev start : tie.After-struct_known-1 → tie.Start
 start c = c.before.before.before.before.before.before
 
-abbrev entry : tie.Joined1 → tie.Start
-entry c = start c.before.before.before
+abbrev entry : tie.Joined-frame → tie.Start
+entry c = c.before.before.before.before.before.before.before.before.before
 
 -- the entries fit behind the number
-room : (c : tie.Joined1)
+room : (c : tie.Joined-frame)
     → let a = (entry c).args in
-    c.if1.at + 4 * a.frame.goals ≤ length c.if1.out
+    c.if-frame.at + 4 * a.frame.goals ≤ length c.if-frame.out
 room c =
     let s = entry c in
     let p = plant_of s.args.plant.now in
-    elim c.if1.branch [
+    elim c.if-frame.branch-raw [
       | inl w ↦
-          let long = ap length w.5 ∙ simp length-sets at (ap length w.2.ensures) in
-          omega (arith, inside s, s.pre.1, w.0.taken, w.6)
+          let long = ap length w.out-is ∙ simp length-sets at (ap length w.put.ensures) in
+          omega (arith, inside s, s.requires.1, w.if-frame.true, w.at-is)
       | inr w ↦
-          let long = ap length w.1 in
-          omega (arith, inside s, s.pre.1, size_least p, w.2)
+          let long = ap length w.out-is in
+          omega (arith, inside s, s.requires.1, size_least p, w.at-is)
     ]
 
 -- both are the row
-row : (c : tie.Joined1) {own : ℕ} {o : List ℕ}
+row : (c : tie.Joined-frame) {own : ℕ} {o : List ℕ}
     → let a = (entry c).args in
     let p = plant_of a.plant.now in
     own ≡ own_move p a.frame.mask a.leave.now a.waits.now a.state
-    → o ≡ sets c.if1.out c.if1.at (bytes_of (entries_of p a.frame.mask own a.waits.now a.state))
+    → o ≡ sets c.if-frame.out c.if-frame.at (bytes_of (entries_of p a.frame.mask own a.waits.now a.state))
     → o ≡ sets a.out.now (16 + 2 * (a.state * a.frame.size))
     (bytes_of (row_of p a.frame.mask a.leave.now a.waits.now a.number a.state))
 row c {own} is e =
@@ -61,65 +61,65 @@ row c {own} is e =
     ⊎_elim
     (λ w.
     row_staged p a.frame.mask a.leave.now a.waits.now a.number a.state at a.out.now is
-    (size_staged p (omega (arith, s.pre.1.0, w.0.taken))) (w.5 ∙ w.2.ensures)
-    (e ∙ ap (λ (k : ℕ). sets c.if1.out k entries) w.6))
+    (size_staged p (omega (arith, s.requires.1.0, w.if-frame.true))) (w.out-is ∙ w.put.ensures)
+    (e ∙ ap (λ (k : ℕ). sets c.if-frame.out k entries) w.at-is))
     (λ w.
     row_plain p a.frame.mask a.leave.now a.waits.now a.number a.state at a.out.now is
-    (size_plain p (omega (arith, s.pre.1.0, w.0.left))) w.1
-    (e ∙ ap (λ (k : ℕ). sets c.if1.out k entries) w.2))
-    c.if1.branch
+    (size_plain p (omega (arith, s.requires.1.0, w.if-frame.false))) w.out-is
+    (e ∙ ap (λ (k : ℕ). sets c.if-frame.out k entries) w.at-is))
+    c.if-frame.branch-raw
 
-mul_at : tie.Need-overflow-mul-at
-mul_at c = let s = start c in omega (arith, inside s, s.pre.1.1.1.1)
+mul_at : tie.Need-overflow_mul-at
+mul_at c = let s = start c in omega (arith, inside s, s.requires.1.1.1.1)
 
-mul-at-2 : tie.Need-overflow-mul-at-2
-mul-at-2 c = let s = start c in omega (arith, inside s, s.pre.1.1.1.1)
+mul-at-2 : tie.Need-overflow_mul-at-2
+mul-at-2 c = let s = start c in omega (arith, inside s, s.requires.1.1.1.1)
 
-add_at : tie.Need-overflow-add-at
-add_at c = let s = start c in omega (arith, inside s, s.pre.1.1.1.1)
+add_at : tie.Need-overflow_add-at
+add_at c = let s = start c in omega (arith, inside s, s.requires.1.1.1.1)
 
-mul-if1 : tie.Need-overflow-mul-if1
+mul-if1 : tie.Need-overflow_mul-frame
 mul-if1 c =
     let s = start c.before in
-    let few = (plant_ok s.args.plant.now s.pre.0.accepted).sizes.goals_most in
-    omega (arith, s.pre.1.0)
+    let few = (plant_ok s.args.plant.now s.requires.0.accepted).sizes.goals_most in
+    omega (arith, s.requires.1.0)
 
 put-requires : tie.Need-put-requires
 put-requires c κs =
     let s = start c.before.before.before.before in
-    omega (arith, inside s, s.pre.1.1.1.1, c.before.if1.true)
+    omega (arith, inside s, s.requires.1.1.1.1, c.if-frame.true)
 
-add-at-2 : tie.Need-overflow-add-at-2
+add-at-2 : tie.Need-overflow_add-at-then-frame
 add-at-2 c =
-    let t = c.before.before.before.before in
-    let s = start t.before.before.before in
-    let few = rows_few (plant_of s.args.plant.now) (plant_ok s.args.plant.now s.pre.0.accepted).sizes in
-    omega (arith, inside s, t.if1.true)
+    let t = c in
+    let s = start t.before.before.before.before.before.before.before in
+    let few = rows_few (plant_of s.args.plant.now) (plant_ok s.args.plant.now s.requires.0.accepted).sizes in
+    omega (arith, inside s, t.if-frame.true)
 
-own-move-requires : tie.Need-own-move-requires
+own-move-requires : tie.Need-own_move-own-requires
 own-move-requires c κs =
     let s = entry c in
     let p = plant_of s.args.plant.now in
     let all : s.args.frame.goals * s.args.frame.states ≡ p.goals * p.states =
-    ap₂ (λ (a b : ℕ). a * b) s.pre.1.0.1.0 s.pre.1.0.0 in
-    (s.pre.0, ((omega (arith, s.pre.1), omega (arith, s.pre.1.1.0)), s.pre.1.1.1.0))
+    ap₂ (λ (a b : ℕ). a * b) s.requires.1.0.1.0 s.requires.1.0.0 in
+    (s.requires.0, ((omega (arith, s.requires.1), omega (arith, s.requires.1.1.0)), s.requires.1.1.1.0))
 
-put-entries-requires : tie.Need-put-entries-requires
+put-entries-requires : tie.Need-put_entries-requires
 put-entries-requires c κs =
-    let j = c.before.before in
-    let s = entry j in
-    (s.pre.0, ((s.pre.1.0.0, s.pre.1.0.1.0), (s.pre.1.1.0.0, (s.pre.1.1.1.0, room j))))
+    let j = c in
+    let s = entry j.before.before in
+    (s.requires.0, ((s.requires.1.0.0, s.requires.1.0.1.0), (s.requires.1.1.0.0, (s.requires.1.1.1.0, room j.before.before))))
 
-same_length : tie.Need-same-length
+same_length : tie.Need-shape_of-out
 same_length c =
-    let e = c.before.before in
+    let e = c in
     simp length-sets at (ap length
-    (row e.before.before.before e.before.before.own-move.ensures e.put_entries.ensures))
+    (row e.before.before.before.before.before e.own_move-own.ensures e.put_entries.ensures))
 
 returns : tie.Need-returns
 returns c =
-    let e = c.before.before in
-    row e.before.before.before e.before.before.own-move.ensures e.put_entries.ensures
+    let e = c in
+    row e.before.before.before.before.before e.own_move-own.ensures e.put_entries.ensures
 
 pub put_row_spec : {M : Type 1} → statement M
 put_row_spec =

@@ -23,32 +23,32 @@ use Rattle.solve.proofs.Exits as exits
 use Rattle.solve.proofs.stages.admit.Statement.{statement}
 use Rattle.solve.proofs.stages.admit.Tie as tie
 
-abbrev invariant-loop : tie.invariant-loop
-invariant-loop plant frame table start stage leave₀ all₀ graph₀ none labels k₀ count₀ leave all graph k count =
+abbrev invariant-loop-k : tie.invariant-loop-k
+invariant-loop-k plant frame table start stage leave₀ all₀ graph₀ none labels k₀ count₀ leave all graph k count =
     (k ≤ length start) × (length leave ≡ length leave₀) × (length all ≡ length all₀) × (length graph ≡ length graph₀)
     × Opened (plant_of plant) frame.mask (take k start) (below stage 65535 (plant_of plant).states) leave all count
     × Graphed (plant_of plant) frame.mask frame.groups frame.positions graph
     × Exits (plant_of plant) leave (take k start) graph
 
-abbrev decreases-loop : tie.decreases-loop
-decreases-loop plant frame table start stage leave₀ all₀ graph₀ none labels k₀ count₀ leave all graph k count = length start - k
+abbrev decreases-loop-k : tie.decreases-loop-k
+decreases-loop-k plant frame table start stage leave₀ all₀ graph₀ none labels k₀ count₀ leave all graph k count = length start - k
 
 -- the function's entry, and the state read, seen from a turn
-abbrev entry : tie.In-loop invariant-loop decreases-loop → tie.Start invariant-loop decreases-loop
+abbrev entry : tie.In-loop-k invariant-loop-k decreases-loop-k → tie.Start invariant-loop-k decreases-loop-k
 entry c = c.before.before.before.before.before.before.before.before.before
 
-abbrev state : tie.In-loop invariant-loop decreases-loop → ℕ
-state c = get_or (entry c).args.start.now c.before.loop.k 0
+abbrev state : tie.In-loop-k invariant-loop-k decreases-loop-k → ℕ
+state c = get_or (entry c).args.start.now c.loop-k.k 0
 
 -- it is one of the plant's
-in_range : (c : tie.In-loop invariant-loop decreases-loop) → state c < (plant_of (entry c).args.plant.now).states
+in_range : (c : tie.In-loop-k invariant-loop-k decreases-loop-k) → state c < (plant_of (entry c).args.plant.now).states
 in_range c =
     let s = entry c in
-    sifted_below (plant_of s.args.plant.now).states s.args.start.now s.pre.1.0 (state c)
-    (is_in_at s.args.start.now c.before.loop.k c.loop-test.true)
+    sifted_below (plant_of s.args.plant.now).states s.args.start.now s.requires.1.0 (state c)
+    (is_in_at s.args.start.now c.loop-k.k c.loop-k-test.true)
 
 -- and so a small number
-small : (c : tie.In-loop invariant-loop decreases-loop) → state c < 1024
+small : (c : tie.In-loop-k invariant-loop-k decreases-loop-k) → state c < 1024
 small c =
     omega (
       arith,
@@ -57,26 +57,26 @@ small c =
     )
 
 -- its move has a place, and so has its label
-move_room : (c : tie.In-loop invariant-loop decreases-loop) → state c < length c.before.loop.leave
-move_room c = omega (arith, in_range c, (entry c).requires.1.1.0.1, c.before.loop.invariant.1)
+move_room : (c : tie.In-loop-k invariant-loop-k decreases-loop-k) → state c < length c.loop-k.leave
+move_room c = omega (arith, in_range c, (entry c).requires.1.1.0.1, c.loop-k.invariant.1)
 
-label_room : (c : tie.In-loop invariant-loop decreases-loop) → label_at (entry c).args.graph.now (state c) < length c.before.loop.graph
-label_room c = omega (arith, small c, c.before.loop.invariant.5.long, c.before.loop.invariant.3)
+label_room : (c : tie.In-loop-k invariant-loop-k decreases-loop-k) → label_at (entry c).args.graph.now (state c) < length c.loop-k.graph
+label_room c = omega (arith, small c, c.loop-k.invariant.5.long, c.loop-k.invariant.3)
 
 -- which is where the array says
-label_here : (c : tie.In-loop invariant-loop decreases-loop)
-    → label_at (entry c).args.graph.now (state c) ≡ label_at c.before.loop.graph (state c)
-label_here c = ap (λ (n : ℕ). n - 1024 + state c) (sym c.before.loop.invariant.3)
+label_here : (c : tie.In-loop-k invariant-loop-k decreases-loop-k)
+    → label_at (entry c).args.graph.now (state c) ≡ label_at c.loop-k.graph (state c)
+label_here c = ap (λ (n : ℕ). n - 1024 + state c) (sym c.loop-k.invariant.3)
 
 -- no more states are listed than read
-few : (c : tie.In-loop invariant-loop decreases-loop) → c.before.loop.count < length c.before.loop.all
+few : (c : tie.In-loop-k invariant-loop-k decreases-loop-k) → c.loop-k.count < length c.loop-k.all
 few c =
-    let l = c.before.loop in
+    let l = c.loop-k in
     let start = (entry c).args.start.now in
     let p = plant_of (entry c).args.plant.now in
     omega (
       arith,
-      c.loop-test.true,
+      c.loop-k-test.true,
       l.invariant.2,
       l.invariant.4.number,
       filter_length (passing p (entry c).args.frame.mask (below (entry c).args.stage.now 65535 p.states))
@@ -85,12 +85,12 @@ few c =
       (entry c).requires.1.1.0.2,
     )
 
-sub-labels : tie.Need-overflow-sub-labels invariant-loop decreases-loop
-sub-labels c = omega (arith, c.before.before.before.before.before.before.before.requires.1.1.1.long)
+sub-labels : tie.Need-overflow_sub-labels invariant-loop-k decreases-loop-k
+sub-labels c = omega (arith, c.requires.1.1.1.long)
 
-loop-holds : tie.Need-loop-init invariant-loop decreases-loop
+loop-holds : tie.Need-loop-k-init invariant-loop-k decreases-loop-k
 loop-holds c =
-    let s = c.before.before.before.before.before.before.before in
+    let s = c in
     let p = plant_of s.args.plant.now in (
       omega arith,
       refl,
@@ -101,120 +101,120 @@ loop-holds c =
       exits.exits_none p s.args.leave.now s.args.graph.now,
     )
 
-mul-state : tie.Need-overflow-mul-state invariant-loop decreases-loop
+mul-state : tie.Need-offset_bounds-start-k invariant-loop-k decreases-loop-k
 mul-state c = search rules
 
-shared-slice-read-state : tie.Need-shared-slice-read-state invariant-loop decreases-loop
-shared-slice-read-state c = c.before.loop-test.true
+shared-slice-read-state : tie.Need-bounds-start-k invariant-loop-k decreases-loop-k
+shared-slice-read-state c = c.loop-k-test.true
 
-cast-x : tie.Need-overflow-cast-x invariant-loop decreases-loop
+cast-x : tie.Need-overflow_cast-x invariant-loop-k decreases-loop-k
 cast-x c = omega (arith, small c.before)
 
-search-requires : tie.Need-search-requires invariant-loop decreases-loop
-search-requires c κs = let s = entry c.before in (s.pre.0, (s.pre.1.1.0.0, in_range c.before))
+search-requires : tie.Need-search-away-requires invariant-loop-k decreases-loop-k
+search-requires c κs = let s = entry c.before in (s.requires.0, (s.requires.1.1.0.0, in_range c.before))
 
-mul-leave : tie.Need-overflow-mul-leave invariant-loop decreases-loop
+mul-leave : tie.Need-offset_bounds-leave-x invariant-loop-k decreases-loop-k
 mul-leave c = omega (arith, small c.before.before)
 
-slice-write-leave : tie.Need-slice-write-leave invariant-loop decreases-loop
+slice-write-leave : tie.Need-bounds-leave-x invariant-loop-k decreases-loop-k
 slice-write-leave c = move_room c.before.before
 
-add-marked : tie.Need-overflow-add-marked invariant-loop decreases-loop
+add-marked : tie.Need-overflow_add-labels invariant-loop-k decreases-loop-k
 add-marked c = omega (arith, small c.before.before)
 
-mul-marked : tie.Need-overflow-mul-marked invariant-loop decreases-loop
+mul-marked : tie.Need-offset_bounds-graph-labels invariant-loop-k decreases-loop-k
 mul-marked c = omega (arith, small c.before.before)
 
-slice-read-marked : tie.Need-slice-read-marked invariant-loop decreases-loop
+slice-read-marked : tie.Need-bounds-graph-labels invariant-loop-k decreases-loop-k
 slice-read-marked c = label_room c.before.before.before
 
-marked-requires : tie.Need-marked-requires invariant-loop decreases-loop
+marked-requires : tie.Need-marked-requires invariant-loop-k decreases-loop-k
 marked-requires c κs = search rules
 
-add-graph : tie.Need-overflow-add-graph invariant-loop decreases-loop
+add-graph : tie.Need-overflow_add-graph invariant-loop-k decreases-loop-k
 add-graph c = omega (arith, small c.before.before.before.before)
 
-mul-graph : tie.Need-overflow-mul-graph invariant-loop decreases-loop
+mul-graph : tie.Need-offset_bounds-graph-labels-in-loop-k invariant-loop-k decreases-loop-k
 mul-graph c = omega (arith, small c.before.before.before.before)
 
-slice-write-graph : tie.Need-slice-write-graph invariant-loop decreases-loop
+slice-write-graph : tie.Need-bounds-graph-labels-in-loop-k invariant-loop-k decreases-loop-k
 slice-write-graph c = label_room c.before.before.before.before
 
-cast-is-settled : tie.Need-overflow-cast-is-settled invariant-loop decreases-loop
+cast-is-settled : tie.Need-overflow_cast-state invariant-loop-k decreases-loop-k
 cast-is-settled c = omega (arith, small c.before.before.before.before)
 
-is-settled-requires : tie.Need-is-settled-requires invariant-loop decreases-loop
+is-settled-requires : tie.Need-is_settled-requires invariant-loop-k decreases-loop-k
 is-settled-requires c κs = search rules
 
-mul-all : tie.Need-overflow-mul-all invariant-loop decreases-loop
-mul-all c = let t = c.before.before.before.before.before.before in omega (arith, few t, t)
+mul-all : tie.Need-offset_bounds-all-count invariant-loop-k decreases-loop-k
+mul-all c = let t = c in omega (arith, few t.before.before.before.before.before.before, t)
 
-slice-write-all : tie.Need-slice-write-all invariant-loop decreases-loop
+slice-write-all : tie.Need-bounds-all-count invariant-loop-k decreases-loop-k
 slice-write-all c = few c.before.before.before.before.before.before
 
-add-count : tie.Need-overflow-add-count invariant-loop decreases-loop
-add-count c = let t = c.before.before.before.before.before.before in omega (arith, few t, t)
+add-count : tie.Need-overflow_add-count invariant-loop-k decreases-loop-k
+add-count c = let t = c in omega (arith, few t.before.before.before.before.before.before, t)
 
-add-k : tie.Need-overflow-add-k invariant-loop decreases-loop
-add-k c = let t = c.before.before.before.before.before.before in omega (arith, t.loop-test.true, entry t)
+add-k : tie.Need-overflow_add-k invariant-loop-k decreases-loop-k
+add-k c = let t = c in omega (arith, t.loop-k-test.true, entry t.before.before.before.before.before.before)
 
-loop-less : tie.Need-loop-smaller invariant-loop decreases-loop
-loop-less c = omega (arith, c.before.before.before.before.before.before.loop-test.true)
+loop-less : tie.Need-loop-k-smaller invariant-loop-k decreases-loop-k
+loop-less c = omega (arith, c.loop-k-test.true)
 
-loop-again : tie.Need-loop-preserved invariant-loop decreases-loop
+loop-again : tie.Need-loop-k-preserved invariant-loop-k decreases-loop-k
 loop-again c =
-    let t = c.before.before.before.before.before.before in
-    let l = t.before.loop in
-    let s = entry t in
+    let t = c in
+    let l = t.loop-k in
+    let s = entry t.before.before.before.before.before.before in
     let plant = s.args.plant.now in
     let start = s.args.start.now in
-    let given = s.pre.0 in
-    let away = c.before.before.before.before.search in
-    let mark = c.before.before.marked.ensures in
-    let settled = c.before.is-settled.ensures in
-    let more : take (l.k + 1) start ≡ take l.k start ++ (state t ∷ []) =
-    rw add-one (take-suc start l.k 0 t.loop-test.true) in
+    let given = s.requires.0 in
+    let away = c.search-away in
+    let mark = c.marked.ensures in
+    let settled = c.is_settled.ensures in
+    let more : take (l.k + 1) start ≡ take l.k start ++ (state t.before.before.before.before.before.before ∷ []) =
+    rw add-one (take-suc start l.k 0 t.loop-k-test.true) in
     let turn = ⊎_elim
-    (λ yes. laws.opened_yes l.invariant.4 (state t) (move_room t) away.ensures.0 settled given.none_is (few t)
-    yes.0.taken yes.1 yes.2)
-    (λ no. laws.opened_no l.invariant.4 (state t) (move_room t) away.ensures.0 settled given.none_is
-    no.0.left no.1 no.2)
-    c.if1.branch in
+    (λ yes. laws.opened_yes l.invariant.4 (state t.before.before.before.before.before.before) (move_room t.before.before.before.before.before.before) away.ensures.0 settled given.none_is (few t.before.before.before.before.before.before)
+    yes.if-is_settled-away.true yes.all-is yes.count-is)
+    (λ no. laws.opened_no l.invariant.4 (state t.before.before.before.before.before.before) (move_room t.before.before.before.before.before.before) away.ensures.0 settled given.none_is
+    no.if-is_settled-away.false no.all-is no.count-is)
+    c.if-is_settled-away.branch-raw in
     let ok = plant_ok plant given.accepted in (
-      omega (arith, t.loop-test.true),
-      length-set l.leave (state t) _ ∙ l.invariant.1,
+      omega (arith, t.loop-k-test.true),
+      length-set l.leave (state t.before.before.before.before.before.before) _ ∙ l.invariant.1,
       turn.0 ∙ l.invariant.2,
       length-set l.graph _ _ ∙ l.invariant.3,
       rw more turn.1,
-      exits.graphed_marked ok l.invariant.5 (state t) (in_range t) (ltb away.result s.args.frame.none)
-          (label_here t) mark,
-      rw more (exits.exits_more ok l.invariant.5 (state t) (in_range t) (ltb away.result s.args.frame.none)
-          (label_here t) mark l.leave (take l.k start) l.invariant.6 away.result given.none_is (move_room t)
+      exits.graphed_marked ok l.invariant.5 (state t.before.before.before.before.before.before) (in_range t.before.before.before.before.before.before) (ltb away.result s.args.frame.none)
+          (label_here t.before.before.before.before.before.before) mark,
+      rw more (exits.exits_more ok l.invariant.5 (state t.before.before.before.before.before.before) (in_range t.before.before.before.before.before.before) (ltb away.result s.args.frame.none)
+          (label_here t.before.before.before.before.before.before) mark l.leave (take l.k start) l.invariant.6 away.result given.none_is (move_room t.before.before.before.before.before.before)
           refl),
     )
 
-same_length : tie.Need-same-length invariant-loop decreases-loop
-same_length c = c.before.loop.invariant.1
+same_length : tie.Need-shape_of-leave invariant-loop-k decreases-loop-k
+same_length c = c.loop-k.invariant.1
 
-same-length-2 : tie.Need-same-length-2 invariant-loop decreases-loop
-same-length-2 c = c.before.loop.invariant.2
+same-length-2 : tie.Need-shape_of-all invariant-loop-k decreases-loop-k
+same-length-2 c = c.loop-k.invariant.2
 
-same-length-3 : tie.Need-same-length-3 invariant-loop decreases-loop
-same-length-3 c = c.before.loop.invariant.3
+same-length-3 : tie.Need-shape_of-graph invariant-loop-k decreases-loop-k
+same-length-3 c = c.loop-k.invariant.3
 
-returns : tie.Need-returns invariant-loop decreases-loop
+returns : tie.Need-returns invariant-loop-k decreases-loop-k
 returns c =
-    let l = c.before.loop in
-    let start = c.before.before.before.before.before.before.before.before.before.args.start.now in
-    let all = take_all l.k start c.loop-test.false in
+    let l = c.loop-k in
+    let start = c.args.start.now in
+    let all = take_all l.k start c.loop-k-test.false in
     (rw all at l.invariant.4, (l.invariant.5, rw all at l.invariant.6))
 
 pub admit_spec : {M : Type 1} → statement M
 admit_spec =
     tie.close
     (tie.spec
-    invariant-loop
-    decreases-loop
+    invariant-loop-k
+    decreases-loop-k
     sub-labels
     loop-holds
     mul-state
