@@ -16,42 +16,42 @@ indexing-requires c κs = search rules
 refused-requires : tie.Need-refused-requires
 refused-requires c κs = search rules
 
-same_length : tie.Need-same-length
+same_length : tie.Need-shape_of-out-then-not-write
 same_length c = search rules
 
-returns : tie.Need-returns
+returns : tie.Need-returns-then-not-write
 returns c =
-    let n = c.before in
-    let e = n.before in
-    let w = e.before.before.before in
-    let a = w.before.before.before.before.args in (
+    let n = c in
+    let e = n in
+    let w = e in
+    let a = w.args in (
       index_none a.plant.now a.out.now w.write.ensures.0 w.write.ensures.1 _
-          (not-true _ e.if1.true) c.refused.ensures n.indexing.ensures,
+          (not-true _ e.if-not-write.true-raw) c.refused.ensures n.indexing.ensures,
       of_index,
     )
 
 number-requires : tie.Need-number-requires
 number-requires c κs = search rules
 
-cast-long : tie.Need-overflow-cast-long
+cast-long : tie.Need-overflow_cast-long
 cast-long c = search rules
 
-mul-long : tie.Need-overflow-mul-long
+mul-long : tie.Need-overflow_mul-long
 mul-long c = search rules
 
-add-long : tie.Need-overflow-add-long
+add-long : tie.Need-overflow_add-long
 add-long c = search rules
 
-same-length-2 : tie.Need-same-length-2
+same-length-2 : tie.Need-shape_of-out
 same-length-2 c = search rules
 
-returns-2 : tie.Need-returns-2
+returns-2 : tie.Need-returns
 returns-2 c =
-    let e = c.before in
-    let w = e.before.before.before in
-    let a = w.before.before.before.before.args in (
+    let e = c in
+    let w = e in
+    let a = w.args in (
       index_done a.plant.now a.out.now w.write.ensures.0 w.write.ensures.1 c.number.result
-          (not-false _ e.if1.false) c.number.ensures,
+          (not-false _ e.if-not-write.false-raw) c.number.ensures,
       of_index,
     )
 

@@ -10,7 +10,7 @@ use borrow.Author.Rules.{rules}
 use Rattle.books.proofs.make_book.Statement.{statement}
 use Rattle.books.proofs.make_book.Tie as tie
 
-make-ahead-requires : tie.Need-make-ahead-requires
+make-ahead-requires : tie.Need-make_ahead-requires
 make-ahead-requires c κs = search rules
 
 make-requires : tie.Need-make-requires
@@ -19,32 +19,32 @@ make-requires c κs = search rules
 refused-requires : tie.Need-refused-requires
 refused-requires c κs = search rules
 
-returns : tie.Need-returns
+returns : tie.Need-returns-then-not-make_ahead
 returns c =
-    let n = c.before in
-    let e = n.before in
-    let t = e.before in
-    let a = t.before.before.before.args in (
+    let n = c in
+    let e = n in
+    let t = e in
+    let a = t.args in (
       make_refused false [] a.plant.now a.mask a.out.now _ c.refused.ensures
           n.make.ensures
-          (sym t.make-ahead.ensures ∙ not-true t.make-ahead.result e.if1.true),
+          (sym t.make_ahead.ensures ∙ not-true t.make_ahead.result e.if-not-make_ahead.true-raw),
       of_make,
     )
 
-slice-aggregate-carry-out : tie.Need-slice-aggregate-carry-out
+slice-aggregate-carry-out : tie.Need-slice_bounds-carry_out-end
 slice-aggregate-carry-out c = search rules
 
 -- past the test the call passes the checks ahead of loading
-carry-out-requires : tie.Need-carry-out-requires
+carry-out-requires : tie.Need-carry_out-requires
 carry-out-requires c κs =
-    let e = c.before.before in
-    sym e.before.make-ahead.ensures ∙ not-false e.before.make-ahead.result e.if1.false
+    let e = c in
+    sym e.make_ahead.ensures ∙ not-false e.make_ahead.result e.if-not-make_ahead.false-raw
 
-same_length : tie.Need-same-length
+same_length : tie.Need-shape_of-out
 same_length c = search rules
 
-returns-2 : tie.Need-returns-2
-returns-2 c = (c.before.before.carry-out.ensures, of_make)
+returns-2 : tie.Need-returns
+returns-2 c = (c.carry_out.ensures, of_make)
 
 pub make_book_spec : {M : Type 1} → statement M
 make_book_spec =

@@ -21,7 +21,7 @@ use borrow.Author.Rules.{rules}
 use Rattle.books.proofs.return_moves.Statement.{statement}
 use Rattle.books.proofs.return_moves.Tie as tie
 
-withdraw-ahead-requires : tie.Need-withdraw-ahead-requires
+withdraw-ahead-requires : tie.Need-withdraw_ahead-requires
 withdraw-ahead-requires c κs = search rules
 
 withdraw-requires : tie.Need-withdraw-requires
@@ -30,111 +30,111 @@ withdraw-requires c κs = search rules
 refused-requires : tie.Need-refused-requires
 refused-requires c κs = search rules
 
-returns : tie.Need-returns
+returns : tie.Need-returns-then-not-withdraw_ahead
 returns c =
-    let n = c.before in
-    let e = n.before in
-    let t = e.before in
-    let a = t.before.before.before.before.before.args in (
+    let n = c in
+    let e = n in
+    let t = e in
+    let a = t.args in (
       record {
         writes =
             withdraw_refused false [] a.plant.now a.book.now a.mask a.out.now a.gained.now _
             c.refused.ensures n.withdraw.ensures
-            (sym t.withdraw-ahead.ensures ∙ not-true t.withdraw-ahead.result e.if1.true);
+            (sym t.withdraw_ahead.ensures ∙ not-true t.withdraw_ahead.result e.if-not-withdraw_ahead.true-raw);
       },
       of_return,
     )
 
-mask-requires : tie.Need-mask-requires
+mask-requires : tie.Need-mask-old-requires
 mask-requires c κs = search rules
 
 -- past the test the call passes the checks ahead of loading
-passes : (c : tie.Else1)
-    → let a = c.before.before.before.before.before.before.args in
+passes : (c : tie.Else-not-withdraw_ahead)
+    → let a = c.args in
     withdraw_ahead a.plant.now a.book.now a.mask (length a.out.now) (length a.gained.now)
     ≡ true
 passes c =
-    let t = c.before in
-    sym t.withdraw-ahead.ensures ∙ not-false t.withdraw-ahead.result c.if1.false
+    let t = c in
+    sym t.withdraw_ahead.ensures ∙ not-false t.withdraw_ahead.result c.if-not-withdraw_ahead.false-raw
 
 -- its plant has a good header, and there is room for the book
-ready : (c : tie.Else1)
-    → let a = c.before.before.before.before.before.before.args in
+ready : (c : tie.Else-not-withdraw_ahead)
+    → let a = c.args in
     (head_ok a.plant.now ≡ true) × (book_room (plant_of a.plant.now) (length a.out.now) ≡ true)
 ready c =
     let parts = make_parts _ _ _ (withdraw_passes _ _ _ _ _ (passes c)).make in
     (parts.0, parts.2)
 
-slice-aggregate-book : tie.Need-slice-aggregate-book
+slice-aggregate-book : tie.Need-slice_bounds-book-end
 slice-aggregate-book c = search rules
 
-book-requires : tie.Need-book-requires
-book-requires c κs = ready c.before.before.before
+book-requires : tie.Need-book-length-requires
+book-requires c κs = ready c.before.before
 
-withdraw-requires-2 : tie.Need-withdraw-requires-2
+withdraw-requires-2 : tie.Need-withdraw-requires-then-length-eq0
 withdraw-requires-2 c κs = search rules
 
-refused-requires-2 : tie.Need-refused-requires-2
+refused-requires-2 : tie.Need-refused-requires-then-length-eq0
 refused-requires-2 c κs = search rules
 
-same_length : tie.Need-same-length
+same_length : tie.Need-shape_of-out-then-length-eq0
 same_length c = search rules
 
-returns-2 : tie.Need-returns-2
+returns-2 : tie.Need-returns-then-length-eq0
 returns-2 c =
-    let n = c.before in
-    let z = n.before in
-    let k = z.before.before.before in
-    let m = k.before.before.before in
-    let a = m.before.before.before.before.before.before.before.args in (
+    let n = c in
+    let z = n in
+    let k = z in
+    let m = k in
+    let a = m.args in (
       return_none [] a.plant.now a.book.now a.mask a.out.now a.gained.now _ _
-          (passes m.before) m.mask.ensures k.book.ensures.0 k.book.ensures.1 _ z.if2.true c.refused2.ensures
-          n.withdraw2.ensures,
+          (passes m.before.before.before.before.before.before.before.before) m.mask-old.ensures k.book-length.ensures.0 k.book-length.ensures.1 _ z.if-length-eq0.true c.refused-then-length-eq0.ensures
+          n.withdraw-then-length-eq0.ensures,
       of_return,
     )
 
 -- the book written is no longer than its buffer
-within : (c : tie.After-book) → c.book.result ≤ length c.book.new.1.1.1.0
+within : (c : tie.After-book-length) → c.book-length.result ≤ length c.book-length.new.out
 within c =
-    let m = c.before.before.before in
-    let e = m.before in
-    let a = e.before.before.before.before.before.before.args in
+    let m = c in
+    let e = m in
+    let a = e.args in
     let p = plant_of a.plant.now in
     omega (
       arith,
-      made_fits p (bit_or m.mask.result a.mask) (accepts false [] a.plant.now) (length a.out.now)
-          (ready e).1 c.book.ensures.0,
-      c.book.auto.1.1.1.0,
+      made_fits p (bit_or m.mask-old.result a.mask) (accepts false [] a.plant.now) (length a.out.now)
+          (ready e.before.before.before).1 c.book-length.ensures.0,
+      c.book-length.auto.out,
     )
 
-cast-dropped : tie.Need-overflow-cast-dropped
+cast-dropped : tie.Need-overflow_cast-length
 cast-dropped c = search rules
 
-slice-reshare-prefix-dropped : tie.Need-slice-reshare-prefix-dropped
+slice-reshare-prefix-dropped : tie.Need-slice_bounds-dropped-end
 slice-reshare-prefix-dropped c = within c.before.before.before
 
-slice-aggregate-dropped : tie.Need-slice-aggregate-dropped
-slice-aggregate-dropped c = sym (length-take-le _ _ (within c.before.before.before.before))
+slice-aggregate-dropped : tie.Need-slice_bounds-dropped-end-2
+slice-aggregate-dropped c = sym (length-take-le _ _ (within c.before.before.before))
 
-dropped-requires : tie.Need-dropped-requires
+dropped-requires : tie.Need-dropped-count-requires
 dropped-requires c κs = search rules
 
-same-length-2 : tie.Need-same-length-2
+same-length-2 : tie.Need-shape_of-out
 same-length-2 c = search rules
 
-same-length-3 : tie.Need-same-length-3
+same-length-3 : tie.Need-shape_of-gained
 same-length-3 c = search rules
 
-returns-3 : tie.Need-returns-3
+returns-3 : tie.Need-returns
 returns-3 c =
-    let d = c.before.before in
-    let e = d.before.before.before in
-    let k = e.before.before.before in
-    let m = k.before.before.before in
-    let a = m.before.before.before.before.before.before.before.args in (
+    let d = c in
+    let e = d in
+    let k = e in
+    let m = k in
+    let a = m.args in (
       return_done [] a.plant.now a.book.now a.mask a.out.now a.gained.now _ _
-          (passes m.before) m.mask.ensures k.book.ensures.0 k.book.ensures.1 e.if2.false d.dropped.ensures.0
-          d.dropped.ensures.1,
+          (passes m.before.before.before.before.before.before.before.before.before.before) m.mask-old.ensures k.book-length.ensures.0 k.book-length.ensures.1 e.if-length-eq0.false d.dropped-count.ensures.0
+          d.dropped-count.ensures.1,
       of_return,
     )
 

@@ -9,44 +9,44 @@ use borrow.Author.Rules.{rules}
 use Rattle.books.proofs.withdraw_indexed.Statement.{statement}
 use Rattle.books.proofs.withdraw_indexed.Tie as tie
 
-withdraw-ahead-requires : tie.Need-withdraw-ahead-requires
+withdraw-ahead-requires : tie.Need-withdraw_ahead-requires
 withdraw-ahead-requires c κs = search rules
 
-withdraw-by-requires : tie.Need-withdraw-by-requires
+withdraw-by-requires : tie.Need-withdraw_by-requires
 withdraw-by-requires c κs = search rules
 
 refused-requires : tie.Need-refused-requires
 refused-requires c κs = search rules
 
-returns : tie.Need-returns
+returns : tie.Need-returns-then-not-withdraw_ahead
 returns c =
-    let n = c.before in
-    let e = n.before in
-    let t = e.before in
-    let a = t.before.before.before.before.before.before.args in (
+    let n = c in
+    let e = n in
+    let t = e in
+    let a = t.args in (
       record {
         writes =
             withdraw_refused true a.index.now a.plant.now a.book.now a.mask a.out.now
-            a.drops.now _ c.refused.ensures n.withdraw-by.ensures
-            (sym t.withdraw-ahead.ensures ∙ not-true t.withdraw-ahead.result e.if1.true);
+            a.drops.now _ c.refused.ensures n.withdraw_by.ensures
+            (sym t.withdraw_ahead.ensures ∙ not-true t.withdraw_ahead.result e.if-not-withdraw_ahead.true-raw);
       },
       of_withdraw_indexed,
     )
 
-carry-out-requires : tie.Need-carry-out-requires
+carry-out-requires : tie.Need-carry_out-requires
 carry-out-requires c κs =
-    let e = c.before.before in
-    let t = e.before in
-    sym t.withdraw-ahead.ensures ∙ not-false t.withdraw-ahead.result e.if1.false
+    let e = c in
+    let t = e in
+    sym t.withdraw_ahead.ensures ∙ not-false t.withdraw_ahead.result e.if-not-withdraw_ahead.false-raw
 
-same_length : tie.Need-same-length
+same_length : tie.Need-shape_of-out
 same_length c = search rules
 
-same-length-2 : tie.Need-same-length-2
+same-length-2 : tie.Need-shape_of-drops
 same-length-2 c = search rules
 
-returns-2 : tie.Need-returns-2
-returns-2 c = (c.before.before.before.before.carry-out.ensures, of_withdraw_indexed)
+returns-2 : tie.Need-returns
+returns-2 c = (c.carry_out.ensures, of_withdraw_indexed)
 
 pub withdraw_indexed_spec : {M : Type 1} → statement M
 withdraw_indexed_spec =

@@ -13,64 +13,64 @@ use borrow.Author.Rules.{rules}
 use Rattle.books.proofs.withdraw_list.Statement.{statement}
 use Rattle.books.proofs.withdraw_list.Tie as tie
 
-withdraw-list-ahead-requires : tie.Need-withdraw-list-ahead-requires
+withdraw-list-ahead-requires : tie.Need-withdraw_list_ahead-requires
 withdraw-list-ahead-requires c κs = search rules
 
-withdraw-list-requires : tie.Need-withdraw-list-requires
+withdraw-list-requires : tie.Need-withdraw_list-requires
 withdraw-list-requires c κs = search rules
 
 refused-requires : tie.Need-refused-requires
 refused-requires c κs = search rules
 
-returns : tie.Need-returns
+returns : tie.Need-returns-then-not-withdraw_list_ahead
 returns c =
-    let n = c.before in
-    let e = n.before in
-    let t = e.before in
-    let a = t.before.before.before.before.before.before.args in (
+    let n = c in
+    let e = n in
+    let t = e in
+    let a = t.args in (
       list_refused a.plant.now a.book.now a.masks.now a.out.now a.drops.now _
-          c.refused.ensures n.withdraw-list.ensures
-          (sym t.withdraw-list-ahead.ensures ∙ not-true t.withdraw-list-ahead.result e.if1.true),
+          c.refused.ensures n.withdraw_list.ensures
+          (sym t.withdraw_list_ahead.ensures ∙ not-true t.withdraw_list_ahead.result e.if-not-withdraw_list_ahead.true-raw),
       of_withdraw_list,
     )
 
-union-requires : tie.Need-union-requires
+union-requires : tie.Need-union-gone-requires
 union-requires c κs = search rules
 
 -- past the test the list passes the checks ahead of loading
-passes : (c : tie.Else1)
-    → let a = c.before.before.before.before.before.before.before.args in
+passes : (c : tie.Else-not-withdraw_list_ahead)
+    → let a = c.args in
     list_ahead a.plant.now a.book.now a.masks.now (length a.out.now) (length a.drops.now)
     ≡ true
 passes c =
-    let t = c.before in
-    sym t.withdraw-list-ahead.ensures ∙ not-false t.withdraw-list-ahead.result c.if1.false
+    let t = c in
+    sym t.withdraw_list_ahead.ensures ∙ not-false t.withdraw_list_ahead.result c.if-not-withdraw_list_ahead.false-raw
 
-slice-aggregate-carry-out : tie.Need-slice-aggregate-carry-out
+slice-aggregate-carry-out : tie.Need-slice_bounds-carry_out-end
 slice-aggregate-carry-out c = search rules
 
-carry-out-requires : tie.Need-carry-out-requires
+carry-out-requires : tie.Need-carry_out-requires
 carry-out-requires c κs =
-    let u = c.before.before.before in
-    let e = u.before in
-    let a = e.before.before.before.before.before.before.before.args in
+    let u = c in
+    let e = u in
+    let a = e.args in
     ap
     (λ (gone : ℕ).
     withdraw_ahead a.plant.now a.book.now gone (length a.out.now) (length a.drops.now))
-    u.union.ensures
-    ∙ (list_left a.plant.now a.book.now a.masks.now _ _ (passes e)).1
+    u.union-gone.ensures
+    ∙ (list_left a.plant.now a.book.now a.masks.now _ _ (passes e.before.before.before)).1
 
-same_length : tie.Need-same-length
+same_length : tie.Need-shape_of-out
 same_length c = search rules
 
-same-length-2 : tie.Need-same-length-2
+same-length-2 : tie.Need-shape_of-drops
 same-length-2 c = search rules
 
-returns-2 : tie.Need-returns-2
+returns-2 : tie.Need-returns
 returns-2 c =
-    let d = c.before.before.before.before in
-    let u = d.before.before.before.before in
-    (list_says (passes u.before) (rw u.union.ensures at d.carry-out.ensures), of_withdraw_list)
+    let d = c in
+    let u = d in
+    (list_says (passes u.before.before.before.before.before.before.before.before) (rw u.union-gone.ensures at d.carry_out.ensures), of_withdraw_list)
 
 pub withdraw_list_spec : {M : Type 1} → statement M
 withdraw_list_spec =

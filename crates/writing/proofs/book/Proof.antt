@@ -16,10 +16,10 @@ use Rattle.writing.proofs.book.Statement.{statement}
 use Rattle.writing.proofs.book.Tie as tie
 
 -- the function's entry, seen from the solver's call, and this, seen from past the test
-abbrev entry : tie.After-solve → tie.Start
+abbrev entry : tie.After-solve-kept → tie.Start
 entry c = c.before.before.before.before.before.before
 
-abbrev solved : tie.Else1 → tie.After-solve
+abbrev solved : tie.Else-kept-eq65535 → tie.After-solve-kept
 solved c = c.before.before.before
 
 -- what is lent is good, and then the plant is accepted
@@ -27,73 +27,73 @@ abbrev good : tie.Start → Bool
 good s = let a = s.args in accepts a.way.indexed a.index.now a.plant.now
 
 -- past the test the book can be written
-can : (c : tie.Else1)
+can : (c : tie.Else-kept-eq65535)
     → let a = (entry (solved c)).args in
     writable (good (entry (solved c))) a.plant.now a.start.now a.out.now ≡ true
 can c =
     let a = (entry (solved c)).args in
-    has_solved (good (entry (solved c))) a.plant.now a.way.mask a.start.now a.out.now (accepts_fine _ _ _) (solved c).solve.ensures.0 c.if1.false
+    has_solved (good (entry (solved c))) a.plant.now a.way.mask a.start.now a.out.now (accepts_fine _ _ _) (solved c).solve-kept.ensures.0 c.if-kept-eq65535.false
 
 -- so the plant is accepted
-accepted : (c : tie.Else1) → plant_fault (entry (solved c)).args.plant.now ≡ 0
+accepted : (c : tie.Else-kept-eq65535) → plant_fault (entry (solved c)).args.plant.now ≡ 0
 accepted c =
     let a = (entry (solved c)).args in
     accepts_fine _ _ _ (writable_fine (good (entry (solved c))) a.plant.now a.start.now a.out.now (can c))
 
-solve-requires : tie.Need-solve-requires
+solve-requires : tie.Need-solve-kept-requires
 solve-requires c κs = search rules
 
-same_length : tie.Need-same-length
+same_length : tie.Need-shape_of-out-then-kept-eq65535
 same_length c = search rules
 
-returns : tie.Need-returns
+returns : tie.Need-returns-then-kept-eq65535
 returns c =
-    let v = c.before.before.before in
-    let a = (entry v).args in
-    mark-unwritten (good (entry v)) a.plant.now a.way.mask a.start.now a.out.now (accepts_fine _ _ _) v.solve.ensures.0
-    v.solve.ensures.1 c.if1.true
+    let v = c in
+    let a = (entry v.before.before.before).args in
+    mark-unwritten (good (entry v.before.before.before)) a.plant.now a.way.mask a.start.now a.out.now (accepts_fine _ _ _) v.solve-kept.ensures.0
+    v.solve-kept.ensures.1 c.if-kept-eq65535.true
 
-cast-head : tie.Need-overflow-cast-head
+cast-head : tie.Need-overflow_cast-kept
 cast-head c =
     let a = (entry (solved c)).args in
     omega (
       arith,
-      kept_few (good (entry (solved c))) a.plant.now a.way.mask a.start.now a.out.now (accepts_fine _ _ _) (solved c).solve.ensures.0 (can c),
+      kept_few (good (entry (solved c))) a.plant.now a.way.mask a.start.now a.out.now (accepts_fine _ _ _) (solved c).solve-kept.ensures.0 (can c),
     )
 
 head-requires : tie.Need-head-requires
 head-requires c κs =
-    let e = c.before in
-    let v = solved e in
+    let e = c in
+    let v = solved e.before in
     let a = (entry v).args in (
-      accepted e,
+      accepted e.before,
       omega (
         arith,
         book_rows (plant_of a.plant.now),
-        room_of (good (entry v)) a.plant.now a.start.now a.out.now (can e),
-        v.solve.kept.1.1.1.1.0,
+        room_of (good (entry v)) a.plant.now a.start.now a.out.now (can e.before),
+        v.solve-kept.auto.out,
       ),
     )
 
-book-long-requires : tie.Need-book-long-requires
+book-long-requires : tie.Need-book_long-requires
 book-long-requires c κs = search rules
 
-cast-result : tie.Need-overflow-cast-result
+cast-result : tie.Need-overflow_cast-result
 cast-result c =
-    let e = c.before.before.before.before.before in
-    omega (arith, c.book_long_lem.ensures, long_few (entry (solved e)).args.plant.now (accepted e))
+    let e = c in
+    omega (arith, c.book_long.ensures, long_few (entry (solved e.before.before.before.before.before)).args.plant.now (accepted e.before.before.before.before.before))
 
-same-length-2 : tie.Need-same-length-2
+same-length-2 : tie.Need-shape_of-out
 same-length-2 c = search rules
 
-returns-2 : tie.Need-returns-2
+returns-2 : tie.Need-returns
 returns-2 c =
-    let h = c.before.before.before in
-    let e = h.before.before in
-    let v = solved e in
+    let h = c in
+    let e = h in
+    let v = solved e.before.before.before.before.before in
     let a = (entry v).args in
-    book-done (good (entry v)) a.plant.now a.way.mask a.start.now a.out.now (accepts_fine _ _ _) v.solve.ensures.0
-    v.solve.ensures.1 (can e) c.book_long_lem.ensures h.head.ensures
+    book-done (good (entry v)) a.plant.now a.way.mask a.start.now a.out.now (accepts_fine _ _ _) v.solve-kept.ensures.0
+    v.solve-kept.ensures.1 (can e.before.before.before.before.before) c.book_long.ensures h.head.ensures
 
 pub book_spec : {M : Type 1} → statement M
 book_spec =

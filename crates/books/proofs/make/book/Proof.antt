@@ -18,54 +18,54 @@ use Rattle.books.proofs.make.book.Tie as tie
 few : (c : tie.Start) → (plant_of c.args.plant.now).states ≤ 1024
 few c = plant_few c.args.plant.now c.requires.0
 
-slice-aggregate-states : tie.Need-slice-aggregate-states
+slice-aggregate-states : tie.Need-slice_bounds-states-end
 slice-aggregate-states c = search rules
 
-states-requires : tie.Need-states-requires
+states-requires : tie.Need-states-all-requires
 states-requires c κs = few c.before.before.before.before
 
-slice-aggregate-allowed : tie.Need-slice-aggregate-allowed
+slice-aggregate-allowed : tie.Need-slice_bounds-allowed-end
 slice-aggregate-allowed c = search rules
 
 -- there is a place for each state
-room : (c : tie.After-states) → c.states.result ≤ length c.states.new.1.0
+room : (c : tie.After-states-all) → c.states-all.result ≤ length c.states-all.new.list
 room c =
-    omega (arith, c.states.ensures.0, few c.before.before.before.before.before, c.states.auto.1.0)
+    omega (arith, c.states-all.ensures.0, few c.before.before.before.before.before, c.states-all.auto.list)
 
-allowed-requires : tie.Need-allowed-requires
-allowed-requires c κs = (c.before.before.before.before.before.before.before.requires.0, room c.before.before)
+allowed-requires : tie.Need-allowed-kept-requires
+allowed-requires c κs = (c.requires.0, room c.before.before)
 
 -- the allowed states are left, at the front
-started : (c : tie.After-allowed)
-    → let p = plant_of c.before.before.before.before.before.before.before.before.args.plant.now in
-    let list = c.allowed.new.1.0 in
-    (c.allowed.result ≤ length list)
-    × (take c.allowed.result list ≡ filter (allowed p) (numbers p.states 0))
+started : (c : tie.After-allowed-kept)
+    → let p = plant_of c.args.plant.now in
+    let list = c.allowed-kept.new.list in
+    (c.allowed-kept.result ≤ length list)
+    × (take c.allowed-kept.result list ≡ filter (allowed p) (numbers p.states 0))
 started c =
-    let t = c.before.before.before in
-    struck _ _ c.allowed.new.1.0 _ _ t.states.ensures.1 (t.states.ensures.0 ∙ sym (length_numbers _ 0))
-    (room t) c.allowed.auto.1.0 c.allowed.ensures.0 c.allowed.ensures.1
+    let t = c in
+    struck _ _ c.allowed-kept.new.list _ _ t.states-all.ensures.1 (t.states-all.ensures.0 ∙ sym (length_numbers _ 0))
+    (room t.before.before.before) c.allowed-kept.auto.list c.allowed-kept.ensures.0 c.allowed-kept.ensures.1
 
-array-share-prefix-list : tie.Need-array-share-prefix-list
+array-share-prefix-list : tie.Need-slice_bounds-list-end
 array-share-prefix-list c = (started c.before).0
 
-slice-aggregate-book : tie.Need-slice-aggregate-book
+slice-aggregate-book : tie.Need-slice_bounds-book-end
 slice-aggregate-book c = sym (length-take-le _ _ (started c.before.before).0)
 
 book-requires : tie.Need-book-requires
 book-requires c κs = search rules
 
-same_length : tie.Need-same-length
+same_length : tie.Need-shape_of-out
 same_length c = search rules
 
 returns : tie.Need-returns
 returns c =
-    let k = c.before.before in
-    let l = k.before.before.before.before in
-    let s = l.before.before.before.before.before.before.before.before in
+    let k = c in
+    let l = k in
+    let s = l in
     let a = s.args in
     made_written a.way.indexed a.index.now a.plant.now a.way.mask _ a.out.now s.requires.1
-    (started l).1 k.book.ensures.0 k.book.ensures.1
+    (started l.before.before.before.before.before.before).1 k.book.ensures.0 k.book.ensures.1
 
 pub book_spec : {M : Type 1} → statement M
 book_spec =

@@ -9,33 +9,33 @@ use Rattle.books.proofs.Struck.{labels_say}
 use Rattle.books.proofs.start.allowed.Statement.{statement}
 use Rattle.books.proofs.start.allowed.Tie as tie
 
-slice-aggregate-labels-to : tie.Need-slice-aggregate-labels-to
+slice-aggregate-labels-to : tie.Need-slice_bounds-labels_to-end
 slice-aggregate-labels-to c = search rules
 
-labels-to-requires : tie.Need-labels-to-requires
+labels-to-requires : tie.Need-labels_to-requires
 labels-to-requires c κs = search rules
 
-slice-aggregate-strike-out : tie.Need-slice-aggregate-strike-out
+slice-aggregate-strike-out : tie.Need-slice_bounds-strike_out-end
 slice-aggregate-strike-out c = search rules
 
-strike-out-requires : tie.Need-strike-out-requires
-strike-out-requires c κs = c.before.before.before.before.before.before.before.requires.1
+strike-out-requires : tie.Need-strike_out-requires
+strike-out-requires c κs = c.requires.1
 
-same_length : tie.Need-same-length
+same_length : tie.Need-shape_of-list
 same_length c = search rules
 
 returns : tie.Need-returns
 returns c =
-    let call = c.before.before in
-    let read = call.before.before.before.before in
-    let s = read.before.before.before.before in
+    let call = c in
+    let read = call in
+    let s = read in
     let plant = s.args.plant.now in
     let list = take s.args.count s.args.list.now in
-    let labels = read.labels-to.new.1.0 in
+    let labels = read.labels_to.new.to in
     let same : filter (λ x. bit 0 (get_or labels x 0)) list ≡ filter (allowed (plant_of plant)) list =
     filter_same (λ x. bit 0 (get_or labels x 0)) (allowed (plant_of plant)) list
-    (λ x m. labels_say plant labels s.requires.0 read.labels-to.ensures x) in
-    (call.strike-out.ensures.0 ∙ ap length same, call.strike-out.ensures.1 ∙ same)
+    (λ x m. labels_say plant labels s.requires.0 read.labels_to.ensures x) in
+    (call.strike_out.ensures.0 ∙ ap length same, call.strike_out.ensures.1 ∙ same)
 
 pub allowed_spec : {M : Type 1} → statement M
 allowed_spec =

@@ -13,98 +13,98 @@ use Rattle.books.proofs.Started.{Filled, fill_start, fill_place, fill_yes, fill_
 use Rattle.books.proofs.start.kept.Statement.{statement}
 use Rattle.books.proofs.start.kept.Tie as tie
 
-abbrev invariant-loop : tie.invariant-loop
-invariant-loop book list₀ count at₀ x₀ stages list at x = Filled (λ y. not (is_lost book y)) (book_states book) list₀ list x at
+abbrev invariant-loop-x : tie.invariant-loop-x
+invariant-loop-x book list₀ count at₀ x₀ stages list at x = Filled (λ y. not (is_lost book y)) (book_states book) list₀ list x at
 
-abbrev decreases-loop : tie.decreases-loop
-decreases-loop book list₀ count at₀ x₀ stages list at x = x
+abbrev decreases-loop-x : tie.decreases-loop-x
+decreases-loop-x book list₀ count at₀ x₀ stages list at x = x
 
-number-requires : tie.Need-number-requires invariant-loop decreases-loop
+number-requires : tie.Need-number-count-requires invariant-loop-x decreases-loop-x
 number-requires c κs = search rules
 
-cast-count : tie.Need-overflow-cast-count invariant-loop decreases-loop
+cast-count : tie.Need-overflow_cast-count invariant-loop-x decreases-loop-x
 cast-count c = omega arith
 
-number-requires-2 : tie.Need-number-requires-2 invariant-loop decreases-loop
+number-requires-2 : tie.Need-number-x-requires invariant-loop-x decreases-loop-x
 number-requires-2 c κs = search rules
 
-staged-requires : tie.Need-staged-requires invariant-loop decreases-loop
+staged-requires : tie.Need-staged-stages-requires invariant-loop-x decreases-loop-x
 staged-requires c κs = search rules
 
-loop-holds : tie.Need-loop-init invariant-loop decreases-loop
+loop-holds : tie.Need-loop-x-init invariant-loop-x decreases-loop-x
 unfolding book_states book_count book_kept
 loop-holds c =
-    let s = c.before.before.before.before.before in
+    let s = c in
     let ok = book_ok s.args.book.now s.requires.0 in
-    rw c.before.number2.ensures
-    (fill_start _ _ _ _ ok.sizes.states_most s.requires.1 (c.before.before.number.ensures ∙ ok.count))
+    rw c.number-x.ensures
+    (fill_start _ _ _ _ ok.sizes.states_most s.requires.1 (c.number-count.ensures ∙ ok.count))
 
-sub-x : tie.Need-overflow-sub-x invariant-loop decreases-loop
+sub-x : tie.Need-overflow_sub-x invariant-loop-x decreases-loop-x
 sub-x c = omega arith
 
-cast-lost-in : tie.Need-overflow-cast-lost-in invariant-loop decreases-loop
-cast-lost-in c = omega (arith, c.before.loop.invariant)
+cast-lost-in : tie.Need-overflow_cast-x invariant-loop-x decreases-loop-x
+cast-lost-in c = omega (arith, c.loop-x.invariant)
 
-lost-in-requires : tie.Need-lost-in-requires invariant-loop decreases-loop
+lost-in-requires : tie.Need-lost_in-requires invariant-loop-x decreases-loop-x
 lost-in-requires c κs = search rules
 
 -- whether the state is lost
-lost_here : (c : tie.After-lost-in invariant-loop decreases-loop)
-    → let l = c.before.before in
-    c.lost-in.result ≡ is_lost l.before.before.before.before.before.before.args.book.now (l.loop.x - 1)
+lost_here : (c : tie.After-lost_in invariant-loop-x decreases-loop-x)
+    → let l = c in
+    c.lost_in.result ≡ is_lost l.args.book.now (l.loop-x.x - 1)
 lost_here c =
-    let l = c.before.before in
-    lost_known l.before.before.before.before.before.before.args.book.now (l.loop.x - 1) _ _
-    l.before.staged.ensures c.lost-in.ensures
+    let l = c in
+    lost_known l.args.book.now (l.loop-x.x - 1) _ _
+    l.staged-stages.ensures c.lost_in.ensures
 
 -- the book keeps the state: there is a place for it
-place : (c : tie.Then1 invariant-loop decreases-loop)
-    → let l = c.before.before.before.loop in
-    let list = c.before.before.before.before.before.before.before.before.before.args.list.now in
+place : (c : tie.Then-not-lost_in invariant-loop-x decreases-loop-x)
+    → let l = c.loop-x in
+    let list = c.args.list.now in
     (0 < l.at) × (l.at ≤ length list)
 place c =
-    let l = c.before.before.before.loop in
+    let l = c.loop-x in
     fill_place _ _ _ _ l.x l.at (l.x - 1) l.invariant (omega arith)
-    (ap not (sym (lost_here c.before)) ∙ c.if1.true)
+    (ap not (sym (lost_here c.before)) ∙ c.if-not-lost_in.true-raw)
 
-sub_at : tie.Need-overflow-sub-at invariant-loop decreases-loop
+sub_at : tie.Need-overflow_sub-at invariant-loop-x decreases-loop-x
 sub_at c = (place c).0
 
-mul-list : tie.Need-overflow-mul-list invariant-loop decreases-loop
+mul-list : tie.Need-offset_bounds-list-at invariant-loop-x decreases-loop-x
 mul-list c = omega (arith, place c)
 
-slice-write-list : tie.Need-slice-write-list invariant-loop decreases-loop
+slice-write-list : tie.Need-bounds-list-at invariant-loop-x decreases-loop-x
 slice-write-list c = omega (arith, place c)
 
-loop-less : tie.Need-loop-smaller invariant-loop decreases-loop
+loop-less : tie.Need-loop-x-smaller-then-not-lost_in invariant-loop-x decreases-loop-x
 loop-less c = omega arith
 
-loop-again : tie.Need-loop-preserved invariant-loop decreases-loop
+loop-again : tie.Need-loop-x-preserved-then-not-lost_in invariant-loop-x decreases-loop-x
 loop-again c =
-    let l = c.before.before.before.loop in
+    let l = c.loop-x in
     fill_yes _ _ _ _ l.x l.at (l.x - 1) l.invariant (omega arith)
-    (ap not (sym (lost_here c.before)) ∙ c.if1.true)
+    (ap not (sym (lost_here c.before)) ∙ c.if-not-lost_in.true-raw)
 
-loop-less-2 : tie.Need-loop-smaller-2 invariant-loop decreases-loop
+loop-less-2 : tie.Need-loop-x-smaller invariant-loop-x decreases-loop-x
 loop-less-2 c = omega arith
 
-loop-again-2 : tie.Need-loop-preserved-2 invariant-loop decreases-loop
+loop-again-2 : tie.Need-loop-x-preserved invariant-loop-x decreases-loop-x
 loop-again-2 c =
-    let l = c.before.before.before.loop in
+    let l = c.loop-x in
     fill_no _ _ _ _ l.x l.at (l.x - 1) l.invariant (omega arith)
-    (ap not (sym (lost_here c.before)) ∙ c.if1.false)
+    (ap not (sym (lost_here c.before)) ∙ c.if-not-lost_in.false-raw)
 
-same_length : tie.Need-same-length invariant-loop decreases-loop
-same_length c = c.before.loop.invariant.size
+same_length : tie.Need-shape_of-list invariant-loop-x decreases-loop-x
+same_length c = c.loop-x.invariant.size
 
-returns : tie.Need-returns invariant-loop decreases-loop
+returns : tie.Need-returns invariant-loop-x decreases-loop-x
 unfolding book_count book_kept
 returns c =
-    let l = c.before.loop in
-    let number = c.before.before.before.before in
-    let s = number.before.before.before in
-    let end : l.x ≡ 0 = omega (arith, c.loop-test.false) in (
-      number.number.ensures ∙ (book_ok s.args.book.now s.requires.0).count,
+    let l = c.loop-x in
+    let number = c in
+    let s = number in
+    let end : l.x ≡ 0 = omega (arith, c.loop-x-test.false) in (
+      number.number-count.ensures ∙ (book_ok s.args.book.now s.requires.0).count,
       fill_end _ _ _ _ _ (rw end at l.invariant),
     )
 
@@ -112,8 +112,8 @@ pub kept_spec : {M : Type 1} → statement M
 kept_spec =
     tie.close
     (tie.spec
-    invariant-loop
-    decreases-loop
+    invariant-loop-x
+    decreases-loop-x
     number-requires
     cast-count
     number-requires-2

@@ -11,62 +11,62 @@ use Rattle.books.proofs.Started.{states_more}
 use Rattle.books.proofs.start.states.Statement.{statement}
 use Rattle.books.proofs.start.states.Tie as tie
 
-abbrev invariant-loop : tie.invariant-loop
-invariant-loop plant list₀ count x₀ list x =
+abbrev invariant-loop-x : tie.invariant-loop-x
+invariant-loop-x plant list₀ count x₀ list x =
     (x ≤ count) × (count ≤ length list₀) × (length list ≡ length list₀) × (list ≡ over (numbers x 0) list₀)
 
-abbrev decreases-loop : tie.decreases-loop
-decreases-loop plant list₀ count x₀ list x = count - x
+abbrev decreases-loop-x : tie.decreases-loop-x
+decreases-loop-x plant list₀ count x₀ list x = count - x
 
-number-requires : tie.Need-number-requires invariant-loop decreases-loop
+number-requires : tie.Need-number-count-requires invariant-loop-x decreases-loop-x
 number-requires c κs = search rules
 
-loop-holds : tie.Need-loop-init invariant-loop decreases-loop
+loop-holds : tie.Need-loop-x-init invariant-loop-x decreases-loop-x
 unfolding plant_of numbers
 loop-holds c =
-    let s = c.before.before.before in
-    (omega arith, omega (arith, s.requires, c.number.ensures), refl, over_none _)
+    let s = c in
+    (omega arith, omega (arith, s.requires, c.number-count.ensures), refl, over_none _)
 
-cast-list : tie.Need-overflow-cast-list invariant-loop decreases-loop
+cast-list : tie.Need-overflow_cast-list invariant-loop-x decreases-loop-x
 cast-list c = omega arith
 
-mul-list : tie.Need-overflow-mul-list invariant-loop decreases-loop
+mul-list : tie.Need-offset_bounds-list-x invariant-loop-x decreases-loop-x
 mul-list c = omega arith
 
-slice-write-list : tie.Need-slice-write-list invariant-loop decreases-loop
+slice-write-list : tie.Need-bounds-list-x invariant-loop-x decreases-loop-x
 slice-write-list c = omega arith
 
-add-x : tie.Need-overflow-add-x invariant-loop decreases-loop
+add-x : tie.Need-overflow_add-x invariant-loop-x decreases-loop-x
 add-x c = omega arith
 
-loop-less : tie.Need-loop-smaller invariant-loop decreases-loop
+loop-less : tie.Need-loop-x-smaller invariant-loop-x decreases-loop-x
 loop-less c = omega arith
 
-loop-again : tie.Need-loop-preserved invariant-loop decreases-loop
+loop-again : tie.Need-loop-x-preserved invariant-loop-x decreases-loop-x
 loop-again c =
-    let l = c.before.loop in
+    let l = c.loop-x in
     (omega arith, l.invariant.1, simp length-set l.invariant.2, states_more _ _ l.x (omega arith) l.invariant.3)
 
-cast-result : tie.Need-overflow-cast-result invariant-loop decreases-loop
+cast-result : tie.Need-overflow_cast-result invariant-loop-x decreases-loop-x
 cast-result c = omega arith
 
-same_length : tie.Need-same-length invariant-loop decreases-loop
-same_length c = c.before.loop.invariant.2
+same_length : tie.Need-shape_of-list invariant-loop-x decreases-loop-x
+same_length c = c.loop-x.invariant.2
 
-returns : tie.Need-returns invariant-loop decreases-loop
+returns : tie.Need-returns invariant-loop-x decreases-loop-x
 unfolding plant_of
 returns c =
-    let l = c.before.loop in
-    let number = c.before.before.number in
-    let end : l.x ≡ number.result = omega (arith, l.invariant.0, c.loop-test.false) in
+    let l = c.loop-x in
+    let number = c.number-count in
+    let end : l.x ≡ number.result = omega (arith, l.invariant.0, c.loop-x-test.false) in
     (number.ensures, rw (end ∙ number.ensures) at l.invariant.3)
 
 pub states_spec : {M : Type 1} → statement M
 states_spec =
     tie.close
     (tie.spec
-    invariant-loop
-    decreases-loop
+    invariant-loop-x
+    decreases-loop-x
     number-requires
     loop-holds
     cast-list

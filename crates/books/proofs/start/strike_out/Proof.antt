@@ -12,75 +12,75 @@ use Rattle.books.proofs.Struck.{Struck, strike_start, strike_yes, strike_no, str
 use Rattle.books.proofs.start.strike_out.Statement.{statement}
 use Rattle.books.proofs.start.strike_out.Tie as tie
 
-abbrev invariant-loop : tie.invariant-loop
-invariant-loop labels list₀ count kept₀ k₀ list kept k = Struck (λ x. bit 0 (get_or labels x 0)) count list₀ list kept k
+abbrev invariant-loop-k : tie.invariant-loop-k
+invariant-loop-k labels list₀ count kept₀ k₀ list kept k = Struck (λ x. bit 0 (get_or labels x 0)) count list₀ list kept k
 
-abbrev decreases-loop : tie.decreases-loop
-decreases-loop labels list₀ count kept₀ k₀ list kept k = count - k
+abbrev decreases-loop-k : tie.decreases-loop-k
+decreases-loop-k labels list₀ count kept₀ k₀ list kept k = count - k
 
-loop-holds : tie.Need-loop-init invariant-loop decreases-loop
-loop-holds c = strike_start _ _ _ c.before.before.requires
+loop-holds : tie.Need-loop-k-init invariant-loop-k decreases-loop-k
+loop-holds c = strike_start _ _ _ c.requires
 
-mul-state : tie.Need-overflow-mul-state invariant-loop decreases-loop
+mul-state : tie.Need-offset_bounds-list-k invariant-loop-k decreases-loop-k
 mul-state c = omega arith
 
-slice-read-state : tie.Need-slice-read-state invariant-loop decreases-loop
+slice-read-state : tie.Need-bounds-list-k invariant-loop-k decreases-loop-k
 slice-read-state c = omega arith
 
-sub-list : tie.Need-overflow-sub-list invariant-loop decreases-loop
+sub-list : tie.Need-overflow_sub-list invariant-loop-k decreases-loop-k
 sub-list c = omega arith
 
-sub-list-2 : tie.Need-overflow-sub-list-2 invariant-loop decreases-loop
+sub-list-2 : tie.Need-overflow_sub-list-in-loop-k invariant-loop-k decreases-loop-k
 sub-list-2 c = omega arith
 
-mul-list : tie.Need-overflow-mul-list invariant-loop decreases-loop
+mul-list : tie.Need-offset_bounds-list-k-in-loop-k invariant-loop-k decreases-loop-k
 mul-list c = omega arith
 
-slice-write-list : tie.Need-slice-write-list invariant-loop decreases-loop
+slice-write-list : tie.Need-bounds-list-k-in-loop-k invariant-loop-k decreases-loop-k
 slice-write-list c = omega arith
 
-label-of-requires : tie.Need-label-of-requires invariant-loop decreases-loop
+label-of-requires : tie.Need-label_of-requires invariant-loop-k decreases-loop-k
 label-of-requires c κs = search rules
 
-cast-bit-at : tie.Need-overflow-cast-bit-at invariant-loop decreases-loop
+cast-bit-at : tie.Need-overflow_cast-label_of invariant-loop-k decreases-loop-k
 cast-bit-at c = search rules
 
-bit-at-requires : tie.Need-bit-at-requires invariant-loop decreases-loop
+bit-at-requires : tie.Need-bit_at-requires invariant-loop-k decreases-loop-k
 bit-at-requires c κs = search rules
 
-sub-kept : tie.Need-overflow-sub-kept invariant-loop decreases-loop
+sub-kept : tie.Need-overflow_sub-kept invariant-loop-k decreases-loop-k
 sub-kept c = omega arith
 
-add-k : tie.Need-overflow-add-k invariant-loop decreases-loop
+add-k : tie.Need-overflow_add-k invariant-loop-k decreases-loop-k
 add-k c = omega arith
 
-loop-less : tie.Need-loop-smaller invariant-loop decreases-loop
+loop-less : tie.Need-loop-k-smaller invariant-loop-k decreases-loop-k
 loop-less c = omega arith
 
-loop-again : tie.Need-loop-preserved invariant-loop decreases-loop
+loop-again : tie.Need-loop-k-preserved invariant-loop-k decreases-loop-k
 loop-again c =
-    let l = c.before.before in
-    let t = l.before.before in
-    let inv = t.before.loop.invariant in
-    let more = t.loop-test.true in
-    let may = c.before.bit_at.ensures ∙ ap (bit 0) l.label_of.ensures in
+    let l = c in
+    let t = l in
+    let inv = t.loop-k.invariant in
+    let more = t.loop-k-test.true in
+    let may = c.bit_at.ensures ∙ ap (bit 0) l.label_of.ensures in
     ⊎_elim
-    (λ w. rw w.1 (strike_no inv more (sym may ∙ not-true _ w.0.taken)))
-    (λ w. rw w.1 (strike_yes inv more (sym may ∙ not-false _ w.0.left)))
-    c.if1.branch
+    (λ w. rw w.kept-is (strike_no inv more (sym may ∙ w.if-not-bit_at.true)))
+    (λ w. rw w.kept-is (strike_yes inv more (sym may ∙ w.if-not-bit_at.false)))
+    c.if-not-bit_at.branch-raw
 
-same_length : tie.Need-same-length invariant-loop decreases-loop
-same_length c = c.before.loop.invariant.size
+same_length : tie.Need-shape_of-list invariant-loop-k decreases-loop-k
+same_length c = c.loop-k.invariant.size
 
-returns : tie.Need-returns invariant-loop decreases-loop
-returns c = strike_end c.before.loop.invariant (omega (arith, c.loop-test.false))
+returns : tie.Need-returns invariant-loop-k decreases-loop-k
+returns c = strike_end c.loop-k.invariant (omega (arith, c.loop-k-test.false))
 
 pub strike_out_spec : {M : Type 1} → statement M
 strike_out_spec =
     tie.close
     (tie.spec
-    invariant-loop
-    decreases-loop
+    invariant-loop-k
+    decreases-loop-k
     loop-holds
     mul-state
     slice-read-state

@@ -34,71 +34,71 @@ states c = passes_states _ _ _ _ _ (ok c)
 few : (c : tie.Start) → (plant_of c.args.plant.now).states ≤ 1024
 few c = plant_few c.args.plant.now (make_parts _ _ _ (ok c).make).0
 
-slice-aggregate-kept : tie.Need-slice-aggregate-kept
+slice-aggregate-kept : tie.Need-slice_bounds-kept-end
 slice-aggregate-kept c = search rules
 
-kept-requires : tie.Need-kept-requires
+kept-requires : tie.Need-kept-before-requires
 kept-requires c κs =
-    let s = c.before.before.before.before.before.before in
-    ((ok s).book, omega (arith, few s, states s))
+    let s = c in
+    ((ok s.before.before.before.before.before.before).book, omega (arith, few s.before.before.before.before.before.before, states s.before.before.before.before.before.before))
 
-slice-aggregate-allowed : tie.Need-slice-aggregate-allowed
+slice-aggregate-allowed : tie.Need-slice_bounds-allowed-end
 slice-aggregate-allowed c = search rules
 
 -- there is a place for each state that the old book keeps
-room : (c : tie.After-kept) → c.kept.result ≤ length c.kept.new.1.0
+room : (c : tie.After-kept-before) → c.kept-before.result ≤ length c.kept-before.new.list
 room c =
-    let s = c.before.before.before.before.before.before.before in
+    let s = c in
     let most = kept_few s.args.book.now in
-    omega (arith, c.kept.ensures.0, most, few s, states s, c.kept.auto.1.0)
+    omega (arith, c.kept-before.ensures.0, most, few s.before.before.before.before.before.before.before, states s.before.before.before.before.before.before.before, c.kept-before.auto.list)
 
-allowed-requires : tie.Need-allowed-requires
+allowed-requires : tie.Need-allowed-kept-requires
 allowed-requires c κs =
-    let s = c.before.before.before.before.before.before.before.before.before in
-    ((make_parts _ _ _ (ok s).make).0, room c.before.before)
+    let s = c in
+    ((make_parts _ _ _ (ok s.before.before.before.before.before.before.before.before.before).make).0, room c.before.before)
 
 -- the allowed ones of them are left, at the front
-started : (c : tie.After-allowed)
-    → let a = c.before.before.before.before.before.before.before.before.before.before.args in
-    let list = c.allowed.new.1.0 in
-    (c.allowed.result ≤ length list)
-    × (take c.allowed.result list ≡ filter (allowed (plant_of a.plant.now)) (book_kept a.book.now))
+started : (c : tie.After-allowed-kept)
+    → let a = c.args in
+    let list = c.allowed-kept.new.list in
+    (c.allowed-kept.result ≤ length list)
+    × (take c.allowed-kept.result list ≡ filter (allowed (plant_of a.plant.now)) (book_kept a.book.now))
 started c =
-    let t = c.before.before.before in
-    struck _ _ c.allowed.new.1.0 _ _ t.kept.ensures.1 t.kept.ensures.0 (room t)
-    c.allowed.auto.1.0 c.allowed.ensures.0 c.allowed.ensures.1
+    let t = c in
+    struck _ _ c.allowed-kept.new.list _ _ t.kept-before.ensures.1 t.kept-before.ensures.0 (room t.before.before.before)
+    c.allowed-kept.auto.list c.allowed-kept.ensures.0 c.allowed-kept.ensures.1
 
-array-share-prefix-list : tie.Need-array-share-prefix-list
+array-share-prefix-list : tie.Need-slice_bounds-list-end
 array-share-prefix-list c = (started c.before.before).0
 
-mask-requires : tie.Need-mask-requires
+mask-requires : tie.Need-mask-old-requires
 mask-requires c κs = search rules
 
-sub-left : tie.Need-overflow-sub-left
+sub-left : tie.Need-overflow_sub-left
 sub-left c = and_le_l _ _
 
-slice-aggregate-book : tie.Need-slice-aggregate-book
+slice-aggregate-book : tie.Need-slice_bounds-book-end
 slice-aggregate-book c = sym (length-take-le _ _ (started c.before.before.before).0)
 
-book-requires : tie.Need-book-requires
+book-requires : tie.Need-book-length-requires
 book-requires c κs = search rules
 
 -- the book written, where plant and index are accepted
-wrote : (c : tie.After-book)
-    → let a = c.before.before.before.before.before.before.before.before.before.before.before.before.before.before.before.args in
+wrote : (c : tie.After-book-length)
+    → let a = c.args in
     let p = plant_of a.plant.now in
     let new = withdrawn_book p a.book.now a.gone in
     let good = accepts a.indexed a.index.now a.plant.now in
-    (c.book.result ≡ pick good (length new) 0)
-    × (c.book.new.1.1.1.1.0 ≡ pick good (over new a.out.now) a.out.now)
+    (c.book-length.result ≡ pick good (length new) 0)
+    × (c.book-length.new.out ≡ pick good (over new a.out.now) a.out.now)
 wrote c =
-    let m = c.before.before.before in
-    let t = m.before.before in
-    let s = t.before.before.before.before.before.before.before.before.before.before in
+    let m = c in
+    let t = m in
+    let s = t in
     let a = s.args in
     withdrawn_written a.indexed a.index.now a.plant.now a.book.now a.gone a.out.now
     a.drops.now _ _ s.requires
-    (started t).1 m.mask.ensures c.book.ensures.0 c.book.ensures.1
+    (started t.before.before.before.before.before).1 m.mask-old.ensures c.book-length.ensures.0 c.book-length.ensures.1
 
 number-requires : tie.Need-number-requires
 number-requires c κs = search rules
@@ -106,54 +106,54 @@ number-requires c κs = search rules
 refused-requires : tie.Need-refused-requires
 refused-requires c κs = search rules
 
-same_length : tie.Need-same-length
+same_length : tie.Need-shape_of-out-then-length-eq0
 same_length c = search rules
 
-returns : tie.Need-returns
+returns : tie.Need-returns-then-length-eq0
 returns c =
-    let n = c.before in
-    let e = n.before in
-    let k = e.before.before.before in
-    let w = wrote k in
-    let s = k.before.before.before.before.before.before.before.before.before.before.before.before.before.before.before in
+    let n = c in
+    let e = n in
+    let k = e in
+    let w = wrote k.before.before.before.before.before in
+    let s = k in
     let a = s.args in
     withdraw_none a.indexed a.index.now a.plant.now a.book.now a.gone a.out.now
-    a.drops.now _ s.pre w.0 w.1 _
-    e.if1.true c.refused.ensures n.number.ensures
+    a.drops.now _ s.requires w.0 w.1 _
+    e.if-length-eq0.true c.refused.ensures n.number.ensures
 
-cast-dropped : tie.Need-overflow-cast-dropped
+cast-dropped : tie.Need-overflow_cast-length
 cast-dropped c = search rules
 
 -- the book written is no longer than its buffer
-within : (c : tie.After-book) → c.book.result ≤ length c.book.new.1.1.1.1.0
-within c = omega (arith, c.book.auto.1.1.1.1.0, written_fits _ _ _ _ c.book.ensures.0)
+within : (c : tie.After-book-length) → c.book-length.result ≤ length c.book-length.new.out
+within c = omega (arith, c.book-length.auto.out, written_fits _ _ _ _ c.book-length.ensures.0)
 
-slice-reshare-prefix-dropped : tie.Need-slice-reshare-prefix-dropped
+slice-reshare-prefix-dropped : tie.Need-slice_bounds-dropped-end
 slice-reshare-prefix-dropped c = within c.before.before.before
 
-slice-aggregate-dropped : tie.Need-slice-aggregate-dropped
-slice-aggregate-dropped c = sym (length-take-le _ _ (within c.before.before.before.before))
+slice-aggregate-dropped : tie.Need-slice_bounds-dropped-end-2
+slice-aggregate-dropped c = sym (length-take-le _ _ (within c.before.before.before))
 
-dropped-requires : tie.Need-dropped-requires
+dropped-requires : tie.Need-dropped-count-requires
 dropped-requires c κs = search rules
 
-same-length-2 : tie.Need-same-length-2
+same-length-2 : tie.Need-shape_of-out
 same-length-2 c = search rules
 
-same-length-3 : tie.Need-same-length-3
+same-length-3 : tie.Need-shape_of-drops
 same-length-3 c = search rules
 
-returns-2 : tie.Need-returns-2
+returns-2 : tie.Need-returns
 returns-2 c =
-    let d = c.before.before in
-    let e = d.before.before.before in
-    let k = e.before.before.before in
-    let w = wrote k in
-    let s = k.before.before.before.before.before.before.before.before.before.before.before.before.before.before.before in
+    let d = c in
+    let e = d in
+    let k = e in
+    let w = wrote k.before.before.before.before.before.before.before in
+    let s = k in
     let a = s.args in
     withdraw_done a.indexed a.index.now a.plant.now a.book.now a.gone a.out.now
-    a.drops.now _ s.pre w.0 w.1
-    e.if1.false d.dropped.ensures.0 d.dropped.ensures.1
+    a.drops.now _ s.requires w.0 w.1
+    e.if-length-eq0.false d.dropped-count.ensures.0 d.dropped-count.ensures.1
 
 pub carry_out_spec : {M : Type 1} → statement M
 carry_out_spec =
