@@ -7,36 +7,36 @@ use Rattle.desk.proofs.Sessions.{of_desk}
 use Rattle.desk.proofs.report_state.Statement.{statement}
 use Rattle.desk.proofs.report_state.Tie as tie
 
-consult-step-requires : tie.Need-consult-step-requires
+consult-step-requires : tie.Need-consult_step-step-requires
 consult-step-requires c κs = search rules
 
-returns : tie.Need-returns
+returns : tie.Need-returns-then-advice-ne0
 returns c =
-    let told = c.before.before.before.consult-step.ensures in
-    (report-none told.0 c.if1.true, of_desk told.1)
+    let told = c.consult_step-step.ensures in
+    (report-none told.0 c.if-advice-ne0.true, of_desk told.1)
 
-refused-requires : tie.Need-refused-requires
+refused-requires : tie.Need-refused-none-requires
 refused-requires c κs = search rules
 
-returns-2 : tie.Need-returns-2
+returns-2 : tie.Need-returns-then-not-step
 returns-2 c =
-    let strays = c.before in
-    let on = strays.before.before in
-    let told = on.before.before.before.consult-step.ensures in
-    (report-strays told.0 on.if1.false (not-true _ strays.if2.true) c.refused.ensures, of_desk told.1)
+    let strays = c in
+    let on = strays in
+    let told = on.consult_step-step.ensures in
+    (report-strays told.0 on.if-advice-ne0.false (not-true _ strays.if-not-step.true) c.refused-none.ensures, of_desk told.1)
 
-cast-held : tie.Need-overflow-cast-held
+cast-held : tie.Need-overflow_cast-here
 cast-held c = search rules
 
-held-requires : tie.Need-held-requires
+held-requires : tie.Need-held-next-requires
 held-requires c κs = search rules
 
-returns-3 : tie.Need-returns-3
+returns-3 : tie.Need-returns
 returns-3 c =
-    let leads = c.before.before.before in
-    let on = leads.before.before in
-    let told = on.before.before.before.consult-step.ensures in (
-      report-shown told.0 on.if1.false told.1.1.0 (not-false _ leads.if2.false) _ c.held.ensures,
+    let leads = c in
+    let on = leads in
+    let told = on.consult_step-step.ensures in (
+      report-shown told.0 on.if-advice-ne0.false told.1.1.0 (not-false _ leads.if-not-step.false) _ c.held-next.ensures,
       of_desk told.1,
     )
 

@@ -6,21 +6,21 @@ use Rattle.desk.proofs.Sessions.{of_desk}
 use Rattle.desk.proofs.start_desk.Statement.{statement}
 use Rattle.desk.proofs.start_desk.Tie as tie
 
-consult-plant-requires : tie.Need-consult-plant-requires
+consult-plant-requires : tie.Need-consult_plant-advice-requires
 consult-plant-requires c κs = search rules
 
-returns : tie.Need-returns
+returns : tie.Need-returns-then-advice-ne0
 returns c =
-    let told = c.before.before.consult-plant.ensures in
-    (start_none told.0 c.if1.true, of_desk told.1)
+    let told = c.consult_plant-advice.ensures in
+    (start_none told.0 c.if-advice-ne0.true, of_desk told.1)
 
-held-requires : tie.Need-held-requires
+held-requires : tie.Need-held-goal-requires
 held-requires c κs = search rules
 
-returns-2 : tie.Need-returns-2
+returns-2 : tie.Need-returns
 returns-2 c =
-    let told = c.before.before.before.consult-plant.ensures in
-    (start-shown told.0 _ c.before.if1.false c.held.ensures, of_desk told.1)
+    let told = c.consult_plant-advice.ensures in
+    (start-shown told.0 _ c.if-advice-ne0.false c.held-goal.ensures, of_desk told.1)
 
 pub start_desk_spec : {M : Type 1} → statement M
 start_desk_spec = tie.close (tie.spec consult-plant-requires returns held-requires returns-2)

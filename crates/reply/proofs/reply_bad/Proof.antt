@@ -6,34 +6,34 @@ use borrow.Author.Rules.{rules}
 use Rattle.reply.proofs.reply_bad.Statement.{statement}
 use Rattle.reply.proofs.reply_bad.Tie as tie
 
-plant-fault-requires : tie.Need-plant-fault-requires
+plant-fault-requires : tie.Need-plant_fault-fault-requires
 plant-fault-requires c κs = search rules
 
-refused-text-requires : tie.Need-refused-text-requires
+refused-text-requires : tie.Need-refused_text-requires
 refused-text-requires c κs = search rules
 
-same_length : tie.Need-same-length
+same_length : tie.Need-shape_of-out-then-fault-ne0
 same_length c = search rules
 
-returns : tie.Need-returns
+returns : tie.Need-returns-then-fault-ne0
 unfolding bad_text
 returns c =
-    let t = c.before.before.before.before in
-    let f = t.before.plant-fault.ensures in
-    rw (← f, ne_eqb _ 0 t.if1.true) c.before.before.refused-text.ensures
+    let t = c in
+    let f = t.plant_fault-fault.ensures in
+    rw (← f, ne_eqb _ 0 t.if-fault-ne0.true) c.refused_text.ensures
 
-bad-masks-text-requires : tie.Need-bad-masks-text-requires
+bad-masks-text-requires : tie.Need-bad_masks_text-requires
 bad-masks-text-requires c κs = search rules
 
-same-length-2 : tie.Need-same-length-2
+same-length-2 : tie.Need-shape_of-out
 same-length-2 c = search rules
 
-returns-2 : tie.Need-returns-2
+returns-2 : tie.Need-returns
 unfolding bad_text
 returns-2 c =
-    let e = c.before.before.before.before in
-    let f = e.before.plant-fault.ensures in
-    rw (eq-eqb _ 0 (sym f ∙ e.if1.false)) c.before.before.bad-masks-text.ensures
+    let e = c in
+    let f = e.plant_fault-fault.ensures in
+    rw (eq-eqb _ 0 (sym f ∙ e.if-fault-ne0.false)) c.bad_masks_text.ensures
 
 pub reply_bad_spec : {M : Type 1} → statement M
 reply_bad_spec =

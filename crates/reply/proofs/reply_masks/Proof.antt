@@ -9,33 +9,33 @@ use borrow.Author.Rules.{rules}
 use Rattle.reply.proofs.reply_masks.Statement.{statement}
 use Rattle.reply.proofs.reply_masks.Tie as tie
 
-book-buffer-requires : tie.Need-book-buffer-requires
+book-buffer-requires : tie.Need-book_buffer-book-requires
 book-buffer-requires c κs = search rules
 
-book-long-requires : tie.Need-book-long-requires
+book-long-requires : tie.Need-book_long-long-requires
 book-long-requires c κs = search rules
 
 -- the plant's books are no longer than the buffer
-within : (c : tie.After-book-long) → c.book_long_lem.result ≤ length c.before.book-buffer.result
+within : (c : tie.After-book_long-long) → c.book_long-long.result ≤ length c.book_buffer-book.result
 within c =
-    let s = c.before.before.before.before.before in
-    omega (arith, c.book_long_lem.ensures, head_long _ s.requires.0, c.before.book-buffer.ensures)
+    let s = c in
+    omega (arith, c.book_long-long.ensures, head_long _ s.requires.0, c.book_buffer-book.ensures)
 
-array-borrow-prefix-book : tie.Need-array-borrow-prefix-book
+array-borrow-prefix-book : tie.Need-slice_bounds-book-end
 array-borrow-prefix-book c = within c
 
-slice-aggregate-reply-in : tie.Need-slice-aggregate-reply-in
+slice-aggregate-reply-in : tie.Need-slice_bounds-reply_in-end
 slice-aggregate-reply-in c = sym (length-take-le _ _ (within c.before))
 
-reply-in-requires : tie.Need-reply-in-requires
+reply-in-requires : tie.Need-reply_in-requires
 reply-in-requires c κs =
-    let k = c.before.before in
-    let s = k.before.before.before.before.before in (
+    let k = c in
+    let s = k in (
       s.requires.1,
-      record { long = length-take-le _ _ (within k) ∙ k.book_long_lem.ensures },
+      record { long = length-take-le _ _ (within k.before.before) ∙ k.book_long-long.ensures },
     )
 
-same_length : tie.Need-same-length
+same_length : tie.Need-shape_of-out
 same_length c = search rules
 
 returns : tie.Need-returns
