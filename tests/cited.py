@@ -18,7 +18,7 @@ CALLS = {
 }
 CRATES = ("books", "consult", "gauge", "desk", "reply")
 FUNCTION = re.compile(r"^pub fn (\w+)(.*?)^\{", re.M | re.S)
-CLAUSE = re.compile(r"ensures \w+ \{ λ _\. ⌜ ([A-Z][\w-]*) ⌝ \}")
+CLAUSE = re.compile(r"ensures \w+ \{ ([A-Z]\w*) \}")
 
 
 def in_the_table(text):
@@ -32,7 +32,7 @@ def in_the_table(text):
         first, *marks = (cell.strip() for cell in line[1:-1].split("|"))
         for head, mark in zip(heads, marks):
             if mark == "x":
-                cited[head].update(re.findall(r"`([\w-]+)`", first.split("(")[0]))
+                cited[head].update(re.findall(r"`(\w+)`", first.split("(")[0]))
     return cited
 
 

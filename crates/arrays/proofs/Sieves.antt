@@ -9,7 +9,7 @@ use lib.ListN.{length, get_or, take, set, length-append, length-set}
 use lib.Seq.{take-suc, length-take-le}
 use Rattle.statements.specs.Sets.{cons_if, filter, over}
 use Rattle.sets.proofs.Members.{filter_length, filter_snoc}
-use Rattle.sets.proofs.Over.{over_none, over_length, over_back, over_at_lem, over_one}
+use Rattle.sets.proofs.Over.{over_none, over_at_lem, over_one}
 
 -- a loop that strikes out of the first `count` numbers of a list those that fail a test: k are read, the ones that
 -- passed stand at the front, and `kept` is how many they are together with those not read yet

@@ -1,6 +1,6 @@
 -- Where a move may lead by the rule of an entry, as a test of one state. Assumes nothing.
 use mathlib.Core.Path.{◌≡◌, refl, sym, ap, ◌∙◌}
-use mathlib.Core.Logic.{inl, inr, ⊎_elim}
+use mathlib.Core.Logic.{⊎_elim}
 use mathlib.Core.Bool.{Bool, true, false, ◌&&◌, ◌||◌, not, or-false}
 use mathlib.Core.List.{List}
 use Prim.Native.Nat.{ℕ, ◌≤◌, ◌<◌}
@@ -8,14 +8,14 @@ use native.Mathlib.Decide.{dec_lt}
 use native.Mathlib.Omega.{arith}
 use lib.Dec.{eqb, ltb}
 use borrow.Author.Tests.{ltb-true, lt-ltb, le-ltb, ltb-false}
-use Rattle.statements.specs.Sets.{pick, bit, bits, first, lowest, numbers, is_in, filter}
+use Rattle.statements.specs.Sets.{bit, bits, first, numbers, is_in, filter}
 use Rattle.statements.specs.Plants.{Plant, goes_into, move_into, moves_into, can}
 use Rattle.statements.specs.Books.{book_states, book_mask, staged, stage_at, wait_at, is_lost, book_kept, nearer_in, earlier_in}
 use Rattle.statements.specs.Books.{onward_in, rule_in, good_moves}
 use Rattle.sets.proofs.Tests.{decided, not_both, and_true, and_left, and_right, same_test}
 use Rattle.sets.proofs.Members.{filter_holds, filter_in, filter_same, numbers_holds, numbers_in_lem}
 use Rattle.sets.proofs.First.{first_holds, first_before}
-use Rattle.sets.proofs.Bits.{bit_none, bits_at, bits_past, all_bits, lowest_bits}
+use Rattle.sets.proofs.Bits.{bit_none, bits_at, bits_past, all_bits}
 use Rattle.consult.specs.Checks.{closer, nearer_than, leads_in}
 
 -- the test of a number past the last state, and of a state

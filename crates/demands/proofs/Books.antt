@@ -3,13 +3,13 @@
 use mathlib.Core.Path.{◌≡◌, sym, ◌∙◌}
 use mathlib.Core.Logic.Iff
 use mathlib.Core.Logic.{◌↔◌, inl, inr, ⊎_elim}
-use mathlib.Core.Bool.{Bool, true, false}
+use mathlib.Core.Bool.{Bool, true}
 use mathlib.Core.List.{List}
 use Prim.Native.Nat.{ℕ, suc, ◌≤◌, ◌<◌}
 use native.Mathlib.Omega.{arith}
 use Rattle.statements.specs.Plants.{Plant}
 use Rattle.statements.specs.Kept.{kept_within, stage_of}
-use Rattle.statements.specs.Books.{wait_at, move_at, stage_at, book_fault, rule_in, book_within}
+use Rattle.statements.specs.Books.{move_at, stage_at, book_fault, rule_in, book_within}
 use Rattle.statements.specs.Strategies.{InGoal, Wins, following}
 use Rattle.statements.specs.Demands.{Lowest, Nearer, Below, Arrived, Onward, HasStages, IsBook, Right}
 use Rattle.sets.proofs.Tests.{not_both}

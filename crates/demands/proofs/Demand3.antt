@@ -7,8 +7,7 @@ use mathlib.Core.List.{List, [], ◌∷◌}
 use Prim.Native.Nat.{ℕ}
 use lib.Dec.{eqb}
 use borrow.Author.Tests.{eqb-true}
-use Rattle.statements.specs.Sets.{pick}
-use Rattle.statements.specs.Plants.{Plant, plant_of, plant_fault}
+use Rattle.statements.specs.Plants.{plant_of, plant_fault}
 use Rattle.statements.specs.Books.{mask_ok, made_book, masks_of, union_of, withdrawn_list}
 use Rattle.statements.specs.Calls.{make_fault, lent_fault, Ask, Call, makes, withdraws, withdraws_list, returns, makes_by}
 use Rattle.statements.specs.Calls.{withdraws_by, effect_of, answer_of, standing_after, standing, answers, told_of}

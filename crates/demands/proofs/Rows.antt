@@ -10,7 +10,7 @@ use native.Mathlib.Decide.{dec_lt}
 use lib.Dec.{eqb, ltb}
 use borrow.Author.Tests.{not-false}
 use Rattle.statements.specs.Sets.{pick, numbers, is_in}
-use Rattle.statements.specs.Plants.{Plant, can}
+use Rattle.statements.specs.Plants.{Plant}
 use Rattle.statements.specs.Kept.{kept_within, stage_of, Stage, stage_for, wait_in, wait_of, nearer, landing, listed_move}
 use Rattle.statements.specs.Books.{book_goals, book_mask, wait_at, move_at, stage_at, staged, is_lost, book_kept}
 use Rattle.statements.specs.Books.{book_within}

@@ -1,16 +1,15 @@
 -- The rule of an entry in the words of document 01 and of request (ix): where the plant does not settle, where a state
 -- can leave for an earlier stage, and where it cannot. Assumes nothing.
 use mathlib.Core.Path.{◌≡◌, refl}
-use mathlib.Core.Logic.{◌↔◌, ◌⊎◌, inl, inr, ⊎_elim}
-use mathlib.Core.Bool.{Bool, true, false}
+use mathlib.Core.Logic.{◌↔◌, inl, inr, ⊎_elim}
+use mathlib.Core.Bool.{Bool, false}
 use mathlib.Core.List.{List}
-use Prim.Native.Nat.{ℕ, suc, ◌≤◌, ◌<◌}
+use Prim.Native.Nat.{ℕ}
 use native.Mathlib.Omega.{arith}
 use Rattle.statements.specs.Plants.{Plant}
-use Rattle.statements.specs.Kept.{kept_within, stage_for}
-use Rattle.statements.specs.Books.{wait_at, stage_at, book_within}
-use Rattle.statements.specs.Strategies.{InGoal, Wins}
-use Rattle.statements.specs.Demands.{Meets, Lowest, Nearer, Below, Exits, Arrived, Onward}
+use Rattle.statements.specs.Books.{stage_at, book_within}
+use Rattle.statements.specs.Strategies.{InGoal}
+use Rattle.statements.specs.Demands.{Meets, Lowest, Nearer, Below, Arrived, Onward}
 use Rattle.sets.proofs.Tests.{not_both}
 use Rattle.kept.proofs.Kept.{for_plain}
 use Rattle.winning.proofs.Runs.{meets_larger}

@@ -2,13 +2,13 @@
 -- goal arrived at (`Arriving`). The wait shown falls with each report until the goal sought is served; then the next goal
 -- in turn that is not served is sought, and so each comes. Assumes nothing else.
 use mathlib.Core.Path.{◌≡◌, refl, sym, ◌∙◌, ap, subst}
-use mathlib.Core.Logic.{◌⊎◌, inl, inr, ⊎_elim}
-use mathlib.Core.Bool.{true, false, not}
+use mathlib.Core.Logic.{inl, inr, ⊎_elim}
+use mathlib.Core.Bool.{true, false}
 use mathlib.Core.List.{List}
 use Prim.Native.Nat.{ℕ, zero, suc, ◌+◌, ◌*◌, ◌≤◌, ◌<◌}
 use native.Mathlib.Omega.{arith}
 use Rattle.statements.specs.Sets.{is_in}
-use Rattle.statements.specs.Plants.{when, Plant, plant_of, ends}
+use Rattle.statements.specs.Plants.{Plant, plant_of, ends}
 use Rattle.statements.specs.Books.{book_goals, wait_at, move_at, is_lost, goal_after, passes, arrive}
 use Rattle.statements.specs.Calls.{moves_fault}
 use Rattle.statements.specs.Demands.{Arriving}

@@ -1,14 +1,11 @@
 -- The marked examples for bands hold of the definitions: each is computed. Assumes nothing.
 use mathlib.Core.Path.{refl}
-use mathlib.Core.Bool.{Bool}
-use mathlib.Core.List.{List}
-use Prim.Native.Nat.{ℕ}
 use lib.Count.{count_trailing_zeros}
-use lib.Ieee.{Float, span, climb, size, odd, units, round, neg, sum, add, sub, lt, eq, le}
+use lib.Ieee.{span, climb, size, odd, units, round, neg, sum, add, sub, lt, eq, le}
 use Rattle.statements.specs.Sets.{numbers, every, first}
 use Rattle.gauge.specs.Numbers.{less, apart}
 use Rattle.gauge.specs.Bands.{band_of, band_ok, step_ok, lists_fit, kinds_ok, table_ok, deviation_of, reading_ok}
-use Rattle.gauge.specs.Bands.{gauge_fault, holds, band_at, PlaceSays}
+use Rattle.gauge.specs.Bands.{gauge_fault, holds, band_at}
 use Rattle.gauge.specs.Placed.{difference}
 use Rattle.gauge.specs.MarkedBands.{kinds_at, stairs, MarkedNumbers, MarkedBands}
 

@@ -5,7 +5,6 @@ use Rattle.statements.specs.Sets.{numbers}
 use Rattle.gauge.specs.Numbers.{Number, apart, value_of}
 use Rattle.gauge.specs.Bands.{PlaceSays}
 use Rattle.gauge.specs.Placed.{difference}
-use Rattle.gauge.specs.declared.Place.{Place}
 
 -- a whole number, and its negative
 abbrev whole : ℕ → Float

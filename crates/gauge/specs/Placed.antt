@@ -1,6 +1,6 @@
 -- Request (xi) in its own words: what a table in order is, and what the call's answers come to, for numbers of
 -- millimetres as they are and not as a machine compares them.
-use Rattle.std.specs.Prelude.{◌≡◌, Bool, true, false, List, ◌↔◌, ℕ, ◌*◌, ◌≤◌, ◌<◌, length, get_or, Float}
+use Rattle.std.specs.Prelude.{◌≡◌, true, false, List, ◌↔◌, ℕ, ◌*◌, ◌≤◌, ◌<◌, length, get_or, Float}
 use Rattle.std.specs.Float.{binary64}
 use Rattle.std.specs.Float.Ieee.{fits, le, lt}
 use Rattle.gauge.specs.Numbers.{Number, Below, AtMost, less, apart, is_finite, value_of}

@@ -5,7 +5,7 @@ ghost use Rattle.std.specs.Prelude.{◌≡◌, false, ◌&&◌, ◌*◌, ◌<◌
 ghost use Rattle.std.specs.Float.Ieee.{lt};
 ghost use Rattle.statements.specs.Sets.{every};
 ghost use Rattle.gauge.specs.Numbers.{is_finite};
-ghost use Rattle.gauge.specs.Bands.{end_of, end_ok, not_empty, follows, from_lower, under_upper};
+ghost use Rattle.gauge.specs.Bands.{end_of, end_ok, not_empty, follows as Follows, from_lower, under_upper};
 ghost use Rattle.gauge.specs.Bands.{band_of, band_ok, step_ok, lists_fit, table_ok, deviation_of, holds as Holds};
 ghost use Rattle.gauge.specs.Bands.{kinds_ok, reading_ok, band_at, PlaceSays};
 ghost use Rattle.gauge.specs.Placed.{Placed, Compared, Rounded};
@@ -108,7 +108,7 @@ fn ends_ok(lower: End, upper: End) -> bool
 
 // Whether a band may begin at an end when the one before it ends at another.
 fn follows(upper: End, next: End) -> bool
-    ensures { result ≡ follows upper next }
+    ensures { result ≡ Follows upper next }
 {
     match upper {
         End::Open => false,

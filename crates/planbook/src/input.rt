@@ -2,7 +2,7 @@
 ghost use Rattle.std.specs.Prelude.{◌≡◌, length};
 ghost use Rattle.io.specs.Counts.{IsPrefixLen};
 
-use libc::STDIN_FILENO;
+use std::io::Read;
 
 // What came of reading: how many bytes stand at the buffer's start, and whether a read failed before the input ended.
 #[derive(Clone, Copy)]
@@ -12,26 +12,30 @@ pub(crate) struct Input {
 }
 
 // One read, from the buffer's start on.
-fn read_some(buf: &mut [u8]) -> Input
+fn read_some<R: Read>(source: &mut R, buf: &mut [u8]) -> Input
     ensures prefix_len { IsPrefixLen result.count buf.new }
     ensures buf_len_unchanged { length buf.new ≡ length buf.old }
 {
-    let got = libc::read(STDIN_FILENO, buf);
-    let count = io::count(got, buf);
-    Input {
-        count: count,
-        failed: got < 0,
+    match source.read(buf) {
+        Ok(count) => Input {
+            count: count,
+            failed: false,
+        },
+        Err(_) => Input {
+            count: 0,
+            failed: true,
+        },
     }
 }
 
 // Reads until the buffer is full, the input ends or a read fails. A read that puts nothing is one of the last two.
-pub(crate) fn read_all(buf: &mut [u8]) -> Input
+pub(crate) fn read_all<R: Read>(source: &mut R, buf: &mut [u8]) -> Input
     ensures { IsPrefixLen result.count buf.new }
 {
     let mut done = 0;
     let mut failed = false;
     while done < buf.len() {
-        let some = read_some(&mut buf[done..]);
+        let some = read_some(source, &mut buf[done..]);
         let count = some.count;
         if count == 0 {
             failed = some.failed;

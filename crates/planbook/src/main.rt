@@ -8,7 +8,7 @@ ghost use Rattle.std.specs.Prelude.{◌≡◌, ◌≤◌, length};
 ghost use Rattle.planbook.specs.Printed.{Printed};
 
 use input::Input;
-use libc::{STDERR_FILENO, STDOUT_FILENO};
+use std::io::{Eprint, Print};
 
 // Room for the input: the longest plant has 51,216 bytes and 16 masks have 64. With one byte more the masks are bad, so
 // that no byte past it can change the answer.
@@ -41,21 +41,23 @@ fn answer<'a>(buffer: &[u8], read: Input, out: &'a mut [u8]) -> &'a mut [u8]
     &mut out[..long]
 }
 
-fn main() {
+// A line on standard error. Where that cannot be written either, there is nobody left to tell.
+fn say(rt: &impl Eprint, text: &str) {
+    match rt.eprintln(text) {
+        Ok(()) => {}
+        Err(_) => {}
+    }
+}
+
+fn main(rt: HostRuntime) {
     let mut input = input_buffer();
     let mut out = output_buffer();
-    let read = input::read_all(&mut input);
+    let read = input::read_all(&mut rt.stdin(), &mut input);
     if read.failed {
-        io::write_all(
-            STDERR_FILENO,
-            b"planbook: standard input could not be read\n",
-        );
+        say(&rt, "planbook: standard input could not be read");
     }
     let text = answer(&input, read, &mut out);
-    if !io::write_all(STDOUT_FILENO, text) {
-        io::write_all(
-            STDERR_FILENO,
-            b"planbook: standard output could not be written\n",
-        );
+    if rt.write_all(text).is_err() {
+        say(&rt, "planbook: standard output could not be written");
     }
 }

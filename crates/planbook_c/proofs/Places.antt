@@ -1,5 +1,5 @@
 -- What the gauge call answers, as 32-bit numbers. Assumes nothing.
-use mathlib.Core.Path.{◌≡◌, refl, ◌∙◌, ap}
+use mathlib.Core.Path.{◌≡◌, ◌∙◌, ap}
 use mathlib.Core.Bool.{Bool}
 use mathlib.Core.List.{List}
 use Prim.Native.Nat.{ℕ}
@@ -8,7 +8,6 @@ use lib.Ieee.{Float}
 use Rattle.statements.specs.Sets.{pick}
 use Rattle.gauge.specs.Bands.{deviation_of, band_at, PlaceSays}
 use Rattle.gauge.specs.declared.Place as answered
-use Rattle.planbook_c.specs.declared.Place.{Place}
 use Rattle.planbook_c.specs.Flat.{PlaceIs}
 
 -- an answer with its Boolean as n, which is 1 for true

@@ -4,12 +4,11 @@ use mathlib.Core.Path.{◌≡◌, ap, ◌∙◌}
 use mathlib.Core.Bool.{true}
 use mathlib.Core.List.{List}
 use Prim.Native.Nat.{ℕ}
-use Rattle.statements.specs.Plants.{Plant, plant_of, plant_fault}
+use Rattle.statements.specs.Plants.{Plant, plant_of}
 use Rattle.statements.specs.Books.{mask_at, mask_ok, each_ok, made_book}
 use Rattle.decoding.proofs.Faults.{PlantOk, plant_ok}
 use Rattle.demands.proofs.Afresh.{in_turn_afresh}
-use Rattle.listing.specs.Text.{listing}
-use Rattle.reply.specs.Reply.{plant_part, mask_part, masks_ok, lists, other_masks, in_turn, outcome_text, reply_to}
+use Rattle.reply.specs.Reply.{plant_part, mask_part, lists, other_masks, in_turn, outcome_text}
 use Rattle.reply.specs.Reply.{served_by}
 use Rattle.reply.specs.Laws.{ListsAfresh}
 use Rattle.reply.proofs.Parts.{masks_good}

@@ -1,6 +1,6 @@
 -- A row's waits and moves joined bit by bit: the waits are below 1,024 just when each is, the moves below 32 likewise,
 -- and the set of the moves is within the mask just when each is in it. Assumes nothing.
-use mathlib.Core.Path.{◌≡◌, refl, sym, ap, ◌∙◌}
+use mathlib.Core.Path.{◌≡◌, sym, ap, ◌∙◌}
 use mathlib.Core.Logic.{inl, inr}
 use mathlib.Core.Bool.{Bool, true, ◌&&◌, and_assoc}
 use mathlib.Core.Bool.{and-true as and_yes}
@@ -11,7 +11,7 @@ use native.Mathlib.Nat.{mod-eq_of_lt}
 use lib.Dec.{eqb, ltb, leb}
 use lib.ListN.{length, drop}
 use lib.Bits.{bit_or, or_zero_l, or_lt, or_add_and, and_le_l, and_le_r}
-use borrow.Author.Tests.{leb-true, le-leb, eqb-true, eq-eqb, ltb-true, lt-ltb, ltb-false}
+use borrow.Author.Tests.{leb-true, le-leb, eqb-true, eq-eqb, ltb-true, ltb-false}
 use Rattle.statements.specs.Sets.{bit, every}
 use Rattle.statements.specs.Plants.{word}
 use Rattle.statements.specs.Books.{mask_ok}

@@ -1,6 +1,6 @@
 -- The entries told from columns of waits are those of the reach to each goal: where the wait is 0 the state's own move,
 -- otherwise the lowest into what is reached in fewer steps. Assumes nothing.
-use mathlib.Core.Path.{◌≡◌, refl, sym, ap, ap₂, ◌∙◌, subst}
+use mathlib.Core.Path.{◌≡◌, sym, ap, ap₂, ◌∙◌, subst}
 use mathlib.Core.Logic.{⊎_elim}
 use mathlib.Core.Bool.{Bool, true, false, ◌&&◌, ◌||◌, not}
 use mathlib.Core.List.{List, [], ◌∷◌}
@@ -9,14 +9,14 @@ use native.Mathlib.Omega.{arith}
 use native.Mathlib.Decide.{dec_lt}
 use borrow.Author.Tests.{lt-ltb, le-ltb, ltb-true, eq-eqb, ne_eqb}
 use lib.Dec.{eqb, ltb}
-use lib.ListN.{length, get_or, take, drop}
+use lib.ListN.{length, get_or, drop}
 use lib.Seq.{get_or-take, get_or-drop}
-use Rattle.statements.specs.Sets.{pick, numbers, first, joined, iterate, is_in, filter}
+use Rattle.statements.specs.Sets.{pick, numbers, first, joined, iterate, is_in}
 use Rattle.statements.specs.Plants.{Plant, in_goal, move_into, can}
 use Rattle.statements.specs.Kept.{grown, target, forced}
 use Rattle.statements.specs.Books.{lost_mark}
 use Rattle.sets.proofs.Tests.{decided, not_both, or_left, same_test}
-use Rattle.sets.proofs.Members.{Sifted, sifted_filter, sifted_sub, sifted_same, filter_same, filter_in, numbers_holds}
+use Rattle.sets.proofs.Members.{Sifted, sifted_filter, sifted_sub, filter_same, filter_in, numbers_holds}
 use Rattle.sets.proofs.Iterate.{sifted_few, sifted_below, iterate_still}
 use Rattle.sets.proofs.First.{first_range, first_holds, first_least}
 use Rattle.sets.proofs.Joined.{joined_same}

@@ -1,27 +1,25 @@
 -- A plant that does not settle: no state leaves, and what is left of its one game are the kept states, with the rows of
 -- the book. Assumes nothing.
 use mathlib.Core.Path.{◌≡◌, refl, sym, ap, ap₂, ◌∙◌, subst}
-use mathlib.Core.Logic.{⊎_elim}
-use mathlib.Core.Bool.{Bool, true, false, ◌&&◌, ◌||◌, not}
+use mathlib.Core.Bool.{Bool, true, false, ◌&&◌}
 use mathlib.Core.List.{List, [], ◌∷◌, ◌++◌}
-use Prim.Native.Nat.{ℕ, ◌+◌, ◌≤◌, ◌<◌}
+use Prim.Native.Nat.{ℕ, ◌≤◌, ◌<◌}
 use native.Mathlib.Omega.{arith}
-use lib.Dec.{eqb, ltb}
-use lib.ListN.{length, get_or, replicate, get_or-replicate}
+use lib.ListN.{get_or, replicate, get_or-replicate}
 use borrow.Author.Tests.{le-ltb, eq-eqb}
 use Rattle.statements.specs.Sets.{pick, numbers, joined, is_in}
 use Rattle.statements.specs.Plants.{Plant}
 use Rattle.statements.specs.Kept.{nowhere, forced, kept_within, stage_of, Stage}
 use Rattle.statements.specs.Books.{lost_mark}
 use Rattle.sets.proofs.Tests.{not_both}
-use Rattle.sets.proofs.Members.{Sifted, is_in_none}
+use Rattle.sets.proofs.Members.{Sifted}
 use Rattle.sets.proofs.Joined.{joined_same}
 use Rattle.kept.proofs.Held.{held_within_lem, held_into, held_same}
 use Rattle.kept.proofs.Kept.{kept_plain, kept_sifted, kept_within_lem, for_plain, for_sound}
 use Rattle.kept.proofs.Waits.{Sound}
 use Rattle.arrays.specs.Lists.{among}
 use Rattle.solve.specs.Reached.{goes, reached, reached_by}
-use Rattle.solve.specs.Rows.{Columns, kept_from, entry_numbers, stage_numbers, one_row, Rowed, entries_of, own_move, row_of}
+use Rattle.solve.specs.Rows.{Columns, kept_from, entry_numbers, stage_numbers, one_row, Rowed, row_of}
 use Rattle.solve.specs.Rows.{is_new, Placed}
 use Rattle.solve.proofs.RowPlaces.{rowed_placed}
 use Rattle.solve.proofs.Starts.{begun}

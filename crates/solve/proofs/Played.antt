@@ -1,20 +1,18 @@
 -- The packed game of a plant is the plant's own: it can be worked out, what is left in it are the states kept, and its
 -- steps are those of the reach to a goal. Assumes nothing.
-use mathlib.Core.Path.{◌≡◌, refl, sym, ap, ap₂, ◌∙◌, subst}
-use mathlib.Core.Bool.{Bool, true, false, ◌&&◌}
+use mathlib.Core.Path.{◌≡◌, refl, sym, ap, ap₂, ◌∙◌}
+use mathlib.Core.Bool.{Bool, true}
 use mathlib.Core.List.{List, [], ◌∷◌}
-use Prim.Native.Nat.{ℕ, zero, suc, ◌+◌, ◌-◌, ◌*◌, ◌%◌, ◌≤◌, ◌<◌}
+use Prim.Native.Nat.{ℕ, zero, suc, ◌+◌, ◌-◌, ◌*◌, ◌≤◌, ◌<◌}
 use native.Mathlib.Omega.{arith}
 use native.Mathlib.Nat.{mul-le-mul_right, zero-add}
 use native.Mathlib.Numerals.{add-one}
 use borrow.Author.Tests.{le-leb}
-use lib.Dec.{leb}
 use lib.ListN.{length, get_or, take, drop, get_or-append}
 use lib.Seq.{get_or-take, get_or-drop}
 use Rattle.statements.specs.Sets.{pick, bit, numbers, every, joined, iterate, is_in, filter, over}
 use Rattle.statements.specs.Plants.{Plant, in_goal, can}
 use Rattle.statements.specs.Kept.{grown, target, forced, forced_all}
-use Rattle.statements.specs.Books.{lost_mark}
 use Rattle.sets.proofs.Tests.{and_true}
 use Rattle.sets.proofs.Members.{Sifted}
 use Rattle.sets.proofs.Iterate.{sifted_below}
@@ -22,7 +20,7 @@ use Rattle.sets.proofs.Joined.{joined_at, joined_length, joined_drop}
 use Rattle.sets.proofs.Over.{over_first}
 use Rattle.decoding.proofs.Faults.{PlantOk}
 use Rattle.arrays.specs.Lists.{rising}
-use Rattle.layout.specs.Layout.{group_states, group_ends, Front}
+use Rattle.layout.specs.Layout.{group_states, Front}
 use Rattle.game.specs.Walked.{can_enter, ordered, all_below}
 use Rattle.game.specs.Game.{Can, grown_in, aims, reached_in, attracted, attracted_all, held_after, steps_to, steps_of}
 use Rattle.game.specs.Packed.{part, groups_in, rev_in, starts_in, labels_in, goal_of, over_at, can_in, roomy_for, hypergraph}

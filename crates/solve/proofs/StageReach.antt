@@ -10,11 +10,11 @@ use lib.ListN.{length, get_or}
 use Rattle.statements.specs.Sets.{iterate, is_in, filter}
 use Rattle.statements.specs.Plants.{Plant, in_goal, move_into, can}
 use Rattle.statements.specs.Kept.{grown, target, forced, Stage, level, wait_in, nearer, landing}
-use Rattle.sets.proofs.Tests.{decided, not_both}
+use Rattle.sets.proofs.Tests.{decided}
 use Rattle.sets.proofs.Members.{Sifted, filter_same, sifted_filter, sifted_same, is_in_here, is_in_there}
 use Rattle.kept.proofs.Reach.{steps_sifted}
 use Rattle.kept.proofs.Waits.{Sound, steps_level, level_kept, wait-level, level-wait, nearer_holds, nearer_in_lem}
-use Rattle.kept.proofs.Waits.{wait-exit, landing_exit, landing_nearer}
+use Rattle.kept.proofs.Waits.{landing_exit, landing_nearer}
 use Rattle.solve.specs.Reached.{goes, within, before, found_by, step_of, reached, reached_by}
 
 -- a test that holds of every member leaves the list as it is

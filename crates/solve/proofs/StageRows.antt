@@ -10,7 +10,7 @@ use native.Mathlib.Omega.{arith}
 use lib.Dec.{eqb, ltb}
 use lib.ListN.{length, get_or, take, replicate, length-replicate, get_or-replicate}
 use borrow.Author.Tests.{eq-eqb, ne_eqb}
-use Rattle.statements.specs.Sets.{pick, numbers, joined, iterate, is_in}
+use Rattle.statements.specs.Sets.{pick, numbers, iterate, is_in}
 use Rattle.statements.specs.Plants.{Plant, move_into, can}
 use Rattle.statements.specs.Kept.{forced, next_stage, stages_to, kept_within}
 use Rattle.statements.specs.Books.{lost_mark}

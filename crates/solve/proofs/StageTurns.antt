@@ -7,10 +7,10 @@ use Prim.Native.Nat.{ℕ, ◌+◌, ◌≤◌, ◌<◌}
 use native.Mathlib.Numerals.{add-one}
 use native.Mathlib.Omega.{arith}
 use lib.Dec.{eqb, ltb}
-use lib.ListN.{length, get_or, take, set, length-append, length-set}
+use lib.ListN.{length, get_or, set, length-append, length-set}
 use lib.Seq.{take-suc-set, get_or-set_same, get_or-set_other}
 use borrow.Author.Tests.{eq-eqb, le-ltb}
-use Rattle.statements.specs.Sets.{cons_if, is_in, filter}
+use Rattle.statements.specs.Sets.{is_in, filter}
 use Rattle.statements.specs.Plants.{Plant, settled, move_into, can}
 use Rattle.statements.specs.Books.{lost_mark}
 use Rattle.sets.proofs.Tests.{same_number, not_both, and_true}

@@ -1,13 +1,13 @@
 -- What working out the game of a plant comes to: the states kept from a start, and the columns of their waits.
 -- Assumes nothing.
-use mathlib.Core.Path.{◌≡◌, refl, sym, ap, ◌∙◌, subst}
-use mathlib.Core.Bool.{Bool, true}
+use mathlib.Core.Path.{◌≡◌, ap, ◌∙◌, subst}
+use mathlib.Core.Bool.{Bool}
 use mathlib.Core.List.{List}
 use Prim.Native.Nat.{ℕ, ◌*◌, ◌≤◌}
 use native.Mathlib.Nat.{mul-le-mul_right}
 use native.Mathlib.Omega.{arith}
 use lib.ListN.{length, take}
-use Rattle.statements.specs.Sets.{pick, numbers, is_in, filter, over}
+use Rattle.statements.specs.Sets.{pick, numbers, over}
 use Rattle.statements.specs.Plants.{plant_of, plant_fault}
 use Rattle.sets.proofs.Members.{Sifted, filter_holds}
 use Rattle.decoding.proofs.Faults.{plant_ok}

@@ -1,7 +1,7 @@
 -- The rows of a book as numbers, how they stand in its bytes, and what the solver answers.
 use Rattle.std.specs.Prelude.{◌≡◌, Bool, ◌&&◌, not, List, [], ◌∷◌, ◌++◌, ℕ, ◌+◌, ◌-◌, ◌*◌, ◌≤◌, ◌<◌, eqb, leb, length, get_or, take, drop}
-use Rattle.statements.specs.Sets.{pick, joined, iterate, is_in, over}
-use Rattle.statements.specs.Plants.{Plant, plant_of, plant_fault, move_into}
+use Rattle.statements.specs.Sets.{pick, joined, iterate, is_in}
+use Rattle.statements.specs.Plants.{Plant, plant_of, move_into}
 use Rattle.statements.specs.Kept.{forced_all, kept_within, stage_of, wait_of, listed_move}
 use Rattle.statements.specs.Books.{lost_mark, bytes_of}
 unfoldable pub use Rattle.arrays.specs.Lists.{among, rising}

@@ -2,7 +2,7 @@
 -- the winning region of the game with the goal "always allowed, and each goal again and again" (generalized Büchi), and
 -- in a plant that settles "from some moment on settled" besides; its wait for a goal is its rank in the attractor of that
 -- goal's kept states. Demands.antt ties them to strategies.
-use Rattle.std.specs.Prelude.{Bool, true, false, ◌&&◌, ◌||◌, List, [], ℕ, zero, suc, eqb, ltb, length}
+use Rattle.std.specs.Prelude.{Bool, false, ◌&&◌, ◌||◌, List, [], ℕ, zero, suc, eqb, ltb, length}
 use Rattle.statements.specs.Sets.{pick, numbers, first, iterate, is_in, filter}
 use Rattle.statements.specs.Plants.{Plant, in_goal, settled, move_into, can}
 

@@ -1,7 +1,7 @@
 -- The tables of request (ix): small plants that settle, with their books and what is read from these, and what the calls
 -- answer to them. Plants and books are written as their two-byte numbers.
 use Rattle.std.specs.Prelude.{◌≡◌, true, false, List, [], ◌∷◌, ℕ, ◌-◌, take, drop}
-use Rattle.statements.specs.Plants.{Plant, plant_of, labels_ok, plant_fault}
+use Rattle.statements.specs.Plants.{plant_of, labels_ok, plant_fault}
 use Rattle.statements.specs.Books.{bytes_of, row_place, row_long, wait_at, move_at, stage_at, rows_ok, book_fault}
 use Rattle.statements.specs.Books.{arrive, good_moves, made_book, withdrawn_book, returned_book}
 use Rattle.statements.specs.Books.{dropped_states, gained_states}

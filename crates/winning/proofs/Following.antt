@@ -13,7 +13,7 @@ use Rattle.statements.specs.Sets.{is_in}
 use Rattle.statements.specs.Plants.{Plant, settled, ends}
 use Rattle.statements.specs.Books.{book_goals, wait_at, move_at, stage_at, is_lost, arrive}
 use Rattle.statements.specs.Strategies.{Turn, Strategy, PicksMove, Play, turns, Run, HoldsBy, WinsBy, Forces, InGoal}
-use Rattle.statements.specs.Strategies.{unsettled, Leaves, sought_after, following}
+use Rattle.statements.specs.Strategies.{unsettled, sought_after, following}
 use Rattle.statements.specs.Demands.{Meets}
 use Rattle.winning.proofs.Goals.{arrive_below}
 use Rattle.winning.proofs.Seeking.{falls_to_0, Seeks, seeks_again, few_unsettled, few_settles}

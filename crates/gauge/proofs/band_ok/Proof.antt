@@ -1,5 +1,4 @@
 -- `gauge::band_ok` meets its contract, part by part. Assumes nothing.
-use mathlib.Core.Path.{sym}
 use borrow.Author.Tests.{lt-ltb, le-ltb}
 use Rattle.gauge.specs.Bands.{band_ok}
 use borrow.Author.Rules.{rules}

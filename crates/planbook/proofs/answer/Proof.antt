@@ -2,7 +2,6 @@
 -- `reply` say. Assumes nothing.
 use mathlib.Core.Path.{◌≡◌, refl, sym, ap, ◌∙◌}
 use mathlib.Core.Bool.{true≢false}
-use Prim.Native.Nat.{◌≤◌}
 use native.Mathlib.Omega.{arith}
 use lib.ListN.{length, take}
 use lib.Seq.{length-take-le}
@@ -12,49 +11,49 @@ use Rattle.reply.proofs.Room.{placed_within, placed_all}
 use Rattle.planbook.proofs.answer.Statement.{statement}
 use Rattle.planbook.proofs.answer.Tie as tie
 
-slice-aggregate-result : tie.Need-slice-aggregate-result
+slice-aggregate-result : tie.Need-slice_bounds-result-end
 slice-aggregate-result c = search rules
 
-returns : tie.Need-returns
+returns : tie.Need-returns-then-read
 returns c =
     record {
-      answer = λ read whole same. absurd (true≢false (sym c.before.if1.true ∙ read));
+      answer = λ read whole same. absurd (true≢false (sym c.if-read.true ∙ read));
       nothing = λ failed. refl;
     }
 
-slice-aggregate-reply : tie.Need-slice-aggregate-reply
-slice-aggregate-reply c = sym (length-take-le _ _ c.before.before.before.before.requires.1.0)
+slice-aggregate-reply : tie.Need-slice_bounds-reply-end
+slice-aggregate-reply c = sym (length-take-le _ _ c.requires.1.0)
 
-reply-requires : tie.Need-reply-requires
+reply-requires : tie.Need-reply-long-requires
 reply-requires c κs = search rules
 
-cast-long : tie.Need-overflow-cast-long
+cast-long : tie.Need-overflow_cast-long
 cast-long c = search rules
 
 -- what is written is the answer to the bytes that were read
-answered : (c : tie.After-reply)
-    → let a = c.before.before.before.before.before.before.args in
-    take c.reply.result c.reply.new.1.0 ≡ reply_to (take a.read.count a.buffer.now)
+answered : (c : tie.After-reply-long)
+    → let a = c.args in
+    take c.reply-long.result c.reply-long.new.out ≡ reply_to (take a.read.count a.buffer.now)
 answered c =
-    let s = c.before.before.before.before.before.before in
-    let says = c.reply.ensures in
+    let s = c in
+    let says = c.reply-long.ensures in
     placed_all _ _ (omega (arith, says.1.1.1.0 (take s.args.read.count s.args.buffer.now), s.requires.1.1))
     says.0 says.1.0
 
-slice-aggregate-result-2 : tie.Need-slice-aggregate-result-2
+slice-aggregate-result-2 : tie.Need-slice_bounds-result-end-2
 slice-aggregate-result-2 c =
-    let k = c.before.before.before in
-    sym (length-take-le _ _ (omega (arith, placed_within _ _ k.reply.ensures.0, k.reply.auto.1.0)))
+    let k = c in
+    sym (length-take-le _ _ (omega (arith, placed_within _ _ k.reply-long.ensures.0, k.reply-long.auto.out)))
 
-returns-2 : tie.Need-returns-2
+returns-2 : tie.Need-returns
 returns-2 c =
-    let k = c.before.before.before in
-    let s = k.before.before.before.before.before.before in
+    let k = c in
+    let s = k in
     record {
       answer =
           λ read whole same.
-          answered k ∙ ap reply_to same ∙ k.reply.ensures.1.1.0 (length s.args.buffer.now) whole s.requires.0;
-      nothing = λ failed. absurd (true≢false (sym failed ∙ k.before.before.before.if1.false));
+          answered k.before.before.before ∙ ap reply_to same ∙ k.reply-long.ensures.1.1.0 (length s.args.buffer.now) whole s.requires.0;
+      nothing = λ failed. absurd (true≢false (sym failed ∙ k.if-read.false));
     }
 
 pub answer_spec : {M : Type 1} → statement M

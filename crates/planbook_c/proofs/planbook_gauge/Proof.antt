@@ -4,17 +4,17 @@ use borrow.Author.Rules.{rules}
 use Rattle.planbook_c.proofs.planbook_gauge.Statement.{statement}
 use Rattle.planbook_c.proofs.planbook_gauge.Tie as tie
 
-find-place-requires : tie.Need-find-place-requires
+find-place-requires : tie.Need-find_place-r-requires
 find-place-requires c κs = search rules
 
-cast-t9 : tie.Need-overflow-cast-t9
+cast-t9 : tie.Need-overflow_cast-result
 cast-t9 c = search rules
 
 one-requires : tie.Need-one-requires
 one-requires c κs = search rules
 
 returns : tie.Need-returns
-returns c = place_is _ _ _ _ _ _ _ _ c.before.before.find-place.ensures.0 c.one.ensures
+returns c = place_is _ _ _ _ _ _ _ _ c.find_place-r.ensures.0 c.one.ensures
 
 pub planbook_gauge_spec : {M : Type 1} → statement M
 planbook_gauge_spec = tie.close (tie.spec find-place-requires cast-t9 one-requires returns)

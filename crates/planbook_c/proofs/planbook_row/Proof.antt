@@ -10,53 +10,53 @@ use borrow.Author.Rules.{rules}
 use Rattle.planbook_c.proofs.planbook_row.Statement.{statement}
 use Rattle.planbook_c.proofs.planbook_row.Tie as tie
 
-state-row-requires : tie.Need-state-row-requires
+state-row-requires : tie.Need-state_row-row-requires
 state-row-requires c κs = search rules
 
-consult-book-requires : tie.Need-consult-book-requires
+consult-book-requires : tie.Need-consult_book-requires
 consult-book-requires c κs = search rules
 
-cast-t7 : tie.Need-overflow-cast-t7
+cast-t7 : tie.Need-overflow_cast-result
 cast-t7 c = search rules
 
-returns : tie.Need-returns
+returns : tie.Need-returns-then-row-eq0
 returns c =
-    let t = c.before.before in
-    let a = t.before.before.before.args in
-    let row = t.before.state-row in
-    part_refused a.book.now a.state _ c.before.consult-book.ensures.0.number
-    (row_none a.book.now a.state row.result.now row.ensures.0.empty t.if1.true)
+    let t = c in
+    let a = t.args in
+    let row = t.state_row-row in
+    part_refused a.book.now a.state _ c.consult_book.ensures.0.number
+    (row_none a.book.now a.state row.result.now row.ensures.0.empty t.if-row-eq0.true)
 
-row-place-requires : tie.Need-row-place-requires
+row-place-requires : tie.Need-row_place-requires
 row-place-requires c κs = search rules
 
 -- past the refusal the call is accepted
-given : (c : tie.After-row-place)
-    → let a = c.before.before.before.before.args in
+given : (c : tie.After-row_place)
+    → let a = c.args in
     consult_fault a.book.now a.state 0 ≡ 0
 given c =
-    let a = c.before.before.before.before.args in
-    let row = c.before.before.state-row in
-    row_some a.book.now a.state row.result.now row.ensures.0.empty c.before.if1.false
+    let a = c.args in
+    let row = c.state_row-row in
+    row_some a.book.now a.state row.result.now row.ensures.0.empty c.if-row-eq0.false
 
-fits : (c : tie.After-row-place)
-    → (c.row_place_lem.result < 65536) × (length c.before.before.state-row.result.now < 65536)
+fits : (c : tie.After-row_place)
+    → (c.row_place.result < 65536) × (length c.state_row-row.result.now < 65536)
 fits c =
-    let a = c.before.before.before.before.args in
-    let row = c.before.before.state-row in
-    part_fits a.book.now a.state _ row.result.now (given c) c.row_place_lem.ensures row.ensures.0.bytes
+    let a = c.args in
+    let row = c.state_row-row in
+    part_fits a.book.now a.state _ row.result.now (given c) c.row_place.ensures row.ensures.0.bytes
 
-cast-t8 : tie.Need-overflow-cast-t8
+cast-t8 : tie.Need-overflow_cast-result-2
 cast-t8 c = omega (arith, (fits c).0)
 
-cast-t10 : tie.Need-overflow-cast-t10
+cast-t10 : tie.Need-overflow_cast-result-3
 cast-t10 c = omega (arith, (fits c).1)
 
-returns-2 : tie.Need-returns-2
+returns-2 : tie.Need-returns
 returns-2 c =
-    let a = c.before.before.before.before.args in
-    let row = c.before.before.state-row in
-    part_given a.book.now a.state _ row.result.now (given c) c.row_place_lem.ensures row.ensures.0.bytes
+    let a = c.args in
+    let row = c.state_row-row in
+    part_given a.book.now a.state _ row.result.now (given c) c.row_place.ensures row.ensures.0.bytes
 
 pub planbook_row_spec : {M : Type 1} → statement M
 planbook_row_spec =

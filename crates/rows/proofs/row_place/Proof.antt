@@ -1,6 +1,5 @@
 -- `rows::row_place` meets its contract: the product of a state and the count of goals is below 2^48. Assumes nothing.
 use borrow.Author.Rules.{rules}
-use mathlib.Core.Path.{◌∙◌}
 use Prim.Native.Nat.{◌*◌, ◌^◌, ◌<◌}
 use native.Mathlib.Omega.{arith}
 use Rattle.format.proofs.Words.{product_below}

@@ -1,5 +1,4 @@
 -- `solve::large` meets its contract: its arrays have room for 8,192 arrows. Assumes nothing.
-use native.Mathlib.Omega.{arith}
 use borrow.Author.Rules.{rules}
 use Rattle.graph.proofs.Links.{arrows_few}
 use Rattle.solve.proofs.Answers.{wide_large}

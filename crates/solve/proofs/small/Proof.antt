@@ -1,5 +1,4 @@
 -- `solve::small` meets its contract: its arrays have room for 2,048 arrows. Assumes nothing.
-use native.Mathlib.Omega.{arith}
 use borrow.Author.Rules.{rules}
 use Rattle.solve.proofs.Answers.{wide_small}
 use Rattle.solve.proofs.small.Statement.{statement}

@@ -2,11 +2,10 @@
 -- has bit 0, and the number kept is exact. Assumes nothing.
 use mathlib.Core.Path.{sym, ap, ◌∙◌}
 use mathlib.Core.Logic.{⊎_elim}
-use Prim.Native.Nat.{ℕ, ◌-◌}
+use Prim.Native.Nat.{◌-◌}
 use native.Mathlib.Omega.{arith}
 use lib.ListN.{get_or}
 use borrow.Author.Rules.{rules}
-use borrow.Author.Tests.{not-true, not-false}
 use Rattle.statements.specs.Sets.{bit}
 use Rattle.books.proofs.Struck.{Struck, strike_start, strike_yes, strike_no, strike_end}
 use Rattle.books.proofs.start.strike_out.Statement.{statement}

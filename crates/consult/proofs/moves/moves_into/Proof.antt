@@ -1,6 +1,6 @@
 -- `consult::moves::moves_into` meets its contract. The loop's invariant: the arrows before arrow k are tried, and those
 -- from there up to the last are the state's. Assumes nothing.
-use mathlib.Core.Path.{◌≡◌, refl, sym, ap, ap₂, ◌∙◌}
+use mathlib.Core.Path.{◌≡◌, sym, ap, ap₂, ◌∙◌}
 use mathlib.Core.Bool.{Bool, true, ◌&&◌}
 use Prim.Native.Nat.{ℕ, ◌-◌, ◌^◌, ◌<◌}
 use native.Mathlib.Omega.{arith}
@@ -9,7 +9,7 @@ use lib.Dec.{ltb}
 use borrow.Author.Tests.{not-true, not-false}
 use Rattle.statements.specs.Sets.{bit, is_in}
 use Rattle.statements.specs.Plants.{plant_of}
-use Rattle.statements.specs.Books.{book_mask, stage_at, wait_at, less_mask}
+use Rattle.statements.specs.Books.{book_mask, less_mask}
 use Rattle.decoding.proofs.Faults.{states_few}
 use Rattle.format.proofs.Words.{power}
 use Rattle.consult.specs.Checks.{nearer_than, leads_in}

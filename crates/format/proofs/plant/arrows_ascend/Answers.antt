@@ -1,5 +1,5 @@
 -- Each turn takes the next arrow off the front: it passes with its rank, or fails, and then so do all of them.
-use Rattle.std.proofs.Common.{◌≡◌, ℕ, ◌<◌, refl, sym, ap, ◌∙◌, arith}
+use Rattle.std.proofs.Common.{◌≡◌, sym, ap, ◌∙◌}
 use Rattle.format.specs.Checks.{least_after}
 use Rattle.format.specs.Arrows.{arrow_in}
 use Rattle.format.proofs.Parts.{arrows_start, arrows_end, arrows_pass, arrows_fail}
@@ -24,14 +24,14 @@ pub loop-arrows-preserved : goal.loop-arrows-preserved
 loop-arrows-preserved c =
     let l = c.loop-arrows in
     let told : c.least_after-least.result
-        ≡ least_after c.args.states c.args.moves l.least (arrow_in c.args.plant.now l.arrows.at) =
+    ≡ least_after c.args.states c.args.moves l.least (arrow_in c.args.plant.now l.arrows.at) =
     rw (c.least_after-least.ensures, c.arrow_in.ensures, l.invariant.same_plant) in
     record {
       same_plant = ap (λ r. r.now) c.after-arrows.ensures.0 ∙ l.invariant.same_plant;
       same =
-        rw (c.after-arrows.ensures.1, told)
-        (l.invariant.same
-        ∙ arrows_pass _ _ _ _ _ l.least c.loop-arrows-test.true (λ e. c.if-least-eq0.false (told ∙ e)));
+          rw (c.after-arrows.ensures.1, told)
+          (l.invariant.same
+          ∙ arrows_pass _ _ _ _ _ l.least c.loop-arrows-test.true (λ e. c.if-least-eq0.false (told ∙ e)));
     }
 
 pub returns : goal.returns

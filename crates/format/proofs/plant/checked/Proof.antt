@@ -1,6 +1,5 @@
 -- `format::plant::checked` meets its contract: what a mask has in common with a number is at most the number. Assumes
 -- nothing.
-use borrow.Author.Rules.{rules}
 use mathlib.Core.Path.{refl}
 use native.Mathlib.Omega.{arith}
 use lib.Bits.{and_le_l}
