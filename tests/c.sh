@@ -8,8 +8,8 @@
 # report, and so do calls of the gauge and of the desk at all their edges. The calls' stack is measured.
 set -euo pipefail
 cd "$(dirname "$0")/.."
-[ -f target/staticlib/libplanbook_c.a ] || rt staticlib planbook_c >target/staticlib.log 2>&1
 mkdir -p target/c
+[ -f target/staticlib/libplanbook_c.a ] || tools/archive.sh >target/archive.log 2>&1
 flags=(-Wall -Wextra -Werror -pedantic -O2 -g -Iinclude)
 for example in strip index gauge desk; do
     gcc -std=c11 "${flags[@]}" "examples/c/$example.c" target/staticlib/libplanbook_c.a -o "target/c/$example"

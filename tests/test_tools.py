@@ -358,6 +358,11 @@ class Run(Case):
         self.fails(2, "there is no such file", RUN, "", "7")
 
 
+def proved(name: str) -> str:
+    """What rt says of a crate that it has proved, as commands that say it."""
+    return f"echo 'crate {name}: modules loaded=3 checked=14' >&2; echo 'logic=proved functions=2 sum=0' >&2"
+
+
 class Build(Case):
     """How ./run builds the planner, in a copy of the repository's outside with a stand-in for rt."""
 
@@ -365,7 +370,7 @@ class Build(Case):
 
     def setUp(self) -> None:
         super().setUp()
-        for folder in ("top", "top/crates", "top/crates/rows", "bin"):
+        for folder in ("top", "top/crates", "top/crates/planbook", "top/crates/planbook_c", "top/crates/rows", "bin"):
             os.mkdir(self.path(folder))
         for name in ("run", "tools", "examples"):
             subprocess.run(["cp", "-R", os.path.join(TOP, name), self.path("top")], check=True)
@@ -375,13 +380,13 @@ class Build(Case):
         self.planner = self.path("top/target/bin/planbook")
 
     def stand_in(self, text: str) -> None:
-        self.program("bin/rt", f'echo "$@" >>"{self.path("calls")}"\n{text}')
+        self.program("bin/rt", f'echo "${{PWD##*/}}: $*" >>"{self.path("calls")}"\n{text}')
 
     def builds(self) -> None:
         """A stand-in that builds the planner, and says what rt says."""
-        self.stand_in("echo 'fn rows::mask: proved'; echo 'rt: laws proved (3 s)'; echo 'rt: rows proved (14 s)'\n"
-                      f'mkdir -p target/bin && cp "{os.environ["PLANBOOK_BIN"]}" target/bin/planbook\n'
-                      "echo 'rt: planbook proved (9 s)'")
+        self.stand_in(f"echo 'fn rows::mask: proved'; {proved('laws')}; {proved('rows')}\n"
+                      f'mkdir -p out && cp "{os.environ["PLANBOOK_BIN"]}" out/planbook\n{proved("planbook")}\n'
+                      "echo 'what the program prints on no input'")
 
     def calls(self) -> List[str]:
         with open(self.path("calls"), encoding="utf-8") as file:
@@ -391,7 +396,7 @@ class Build(Case):
         """./run prints the listing of P, and has asked rt so many times by then: what it said on the way."""
         code, out, error = self.call(self.path("top/run"), env=self.env)
         self.assertEqual((code, out), (0, STRIP_LISTING), error)
-        self.assertEqual(self.calls(), ["check planbook"] * calls)
+        self.assertEqual(self.calls(), ["planbook: run"] * calls)
         return error
 
     def ends(self, status: int, words: str) -> None:
@@ -435,14 +440,14 @@ class Build(Case):
         self.assertEqual(lines[1:], ["run: 1 of 3 proved: laws", "run: 2 of 3 proved: rows",
                                      "run: 3 of 3 proved: planbook"])
         self.write("top/crates/rows/source", b"more")
-        self.stand_in("echo 'rt: laws proved (unchanged since it was last proved)'; echo 'rt: rows proved (1 s)'")
+        self.stand_in(proved("rows"))  # of laws, which has not changed, rt says nothing
         self.assertEqual(self.lists(2).splitlines()[1:], ["run: 2 of 3 proved: rows"])
 
     def test_progress_is_told_at_once(self) -> None:
         # The stand-in goes on only when the line about its first crate was read.
         os.mkfifo(self.path("go"))
-        self.stand_in(f"echo 'rt: laws proved (3 s)'; cat {self.path('go')}\n"
-                      f'mkdir -p target/bin && cp "{os.environ["PLANBOOK_BIN"]}" target/bin/planbook')
+        self.stand_in(f"{proved('laws')}; cat {self.path('go')}\n"
+                      f'mkdir -p out && cp "{os.environ["PLANBOOK_BIN"]}" out/planbook')
         with subprocess.Popen([self.path("top/run")], stdout=subprocess.PIPE, stderr=subprocess.PIPE, text=True,
                               env={**os.environ, **self.env}) as running:
             assert running.stderr is not None and running.stdout is not None
@@ -496,8 +501,7 @@ class Build(Case):
 
     def builds_library(self) -> None:
         """Stand-ins that build the library: rt the archive, and cc the library, at the place that follows -o."""
-        self.stand_in("mkdir -p target/staticlib && echo archive >target/staticlib/libplanbook_c.a\n"
-                      "echo 'rt: laws proved (3 s)'; echo 'rt: rows proved (unchanged since it was last proved)'")
+        self.stand_in(f"mkdir -p out && echo archive >out/libplanbook_c.a\n{proved('laws')}")
         self.program("bin/cc", f'echo "$@" >>"{self.path("links")}"; [ "$2" = -o ] || exit 1\n'
                      f'grep -q archive target/staticlib/libplanbook_c.a && cp "{os.environ["PLANBOOK_LIB"]}" "$3"')
         self.write("top/crates.txt", self.CRATES + b"planbook_c: rows\n")
@@ -507,7 +511,7 @@ class Build(Case):
         """./run gauge answers, and has asked rt so many times by then: what it said on the way."""
         code, out, error = self.call(self.path("top/run"), "gauge", BANDS, "2.013", "2", env=self.env)
         self.assertEqual((code, out), (0, ON_AIM), error)
-        self.assertEqual(self.calls(), ["staticlib planbook_c"] * calls)
+        self.assertEqual(self.calls(), ["planbook_c: lib"] * calls)
         return error
 
     def test_the_library_is_built_when_missing_or_old_and_not_again(self) -> None:
@@ -583,7 +587,7 @@ class Build(Case):
             code, out, error = self.call("bash", "-c", '"$0" "$@" </dev/null', *desk, strip, "7", "--state", "0",
                                          env=self.env)
             self.assertEqual((code, out), (0, "state 0 move 0 wait 2 seek 1\n"), error)
-            self.assertEqual(self.calls(), ["staticlib planbook_c"])
+            self.assertEqual(self.calls(), ["planbook_c: lib"])
         self.assertEqual(error, "")
         self.assertFalse(os.path.exists(self.planner))  # the desk needs no planner
 
@@ -593,7 +597,7 @@ class Build(Case):
         os.symlink(self.path("one"), self.path("bin/two"))
         for name in ("one", "bin/two"):
             self.assertEqual(self.call(self.path(name), env=self.env)[:2], (0, STRIP_LISTING))
-        self.assertEqual(self.calls(), ["check planbook"])
+        self.assertEqual(self.calls(), ["planbook: run"])
 
     def test_nothing_is_installed(self) -> None:
         few = self.few_tools()

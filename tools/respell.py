@@ -27,8 +27,9 @@ def texts(root):
 
 
 def of_function(path):
-    """A file of one function's proof."""
-    return path.endswith(".antt") and os.path.basename(path) in ("Proof.antt", "Invariants.antt", "Answers.antt")
+    """A file of one function's proof: in a folder of its own below proofs/."""
+    folder, name = os.path.split(path)
+    return name in ("Proof.antt", "Invariants.antt", "Answers.antt") and os.path.basename(folder) != "proofs"
 
 
 def snake(name):
@@ -50,7 +51,7 @@ def declared(path, text):
             yield m[1], "type"
             continue
         m = DECLARES.match(line)
-        if not m or len(m[1]) > 4 or m[2].split()[0] in WORDS:
+        if not m or len(m[1]) > 8 or m[2].split()[0] in WORDS:
             continue
         whole = line
         for more in lines[i + 1:i + 12]:

@@ -18,7 +18,7 @@ fn main() {
     let archive = folder.join(ARCHIVE);
     assert!(
         archive.is_file(),
-        "{} is missing: build it with `rt staticlib planbook_c` at the repository's top, or set PLANBOOK_LIB_DIR to \
+        "{} is missing: build it with tools/archive.sh at the repository's top, or set PLANBOOK_LIB_DIR to \
          its folder, or leave the library out with --no-default-features",
         archive.display()
     );
@@ -39,10 +39,10 @@ fn in_repository() -> PathBuf {
 }
 
 fn build_archive(top: &Path) {
-    let done = Command::new("rt").args(["staticlib", "planbook_c"]).current_dir(top).status();
+    let done = Command::new(top.join("tools/archive.sh")).status();
     match done {
         Ok(status) if status.success() => {}
-        Ok(status) => panic!("`rt staticlib planbook_c` ended with {status}"),
-        Err(error) => panic!("`rt staticlib planbook_c` could not be run: {error}"),
+        Ok(status) => panic!("tools/archive.sh ended with {status}"),
+        Err(error) => panic!("tools/archive.sh could not be run: {error}"),
     }
 }
