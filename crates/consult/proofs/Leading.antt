@@ -102,8 +102,8 @@ module _ (s : List ℕ) (x u y : ℕ) where
           ∙ left_end (k + (word 3 s - k)) (omega arith)
 
       -- the first that is not of a lower rank is the one, or there is none
-      pub leads-here : eqb (rank_in s k) Rank ≡ is_in y (ends (plant_of s) x u)
-      leads-here =
+      pub leads_here : eqb (rank_in s k) Rank ≡ is_in y (ends (plant_of s) x u)
+      leads_here =
           elim (decided (eqb (rank_in s k) Rank)) [
             | inl h ↦ h ∙ sym (left_first ∙ found (eqb-true (rank_in s k) Rank h))
             | inr h ↦ h ∙ sym (left_first ∙ other (eqb-false (rank_in s k) Rank h))

@@ -137,15 +137,15 @@ module _ (p : Plant) (b : List ℕ) (x i : ℕ) where
       leaves : early ≡ moves_into p (book_mask b) (earlier_in b x) x
       leaves = is ∙ ap (λ (ys : List ℕ). moves_into p (book_mask b) ys x) (leads_early b x i)
 
-      pub good-early : (early ≡ 0 → ⊥) → early ≡ good_moves p b x i
+      pub good_early : (early ≡ 0 → ⊥) → early ≡ good_moves p b x i
       unfolding rule_in
-      good-early d =
+      good_early d =
           good_by (earlier_in b x) lost
           (rw (s, some_can p (book_mask b) (earlier_in b x) x (λ e. d (leaves ∙ e))) refl) leaves
 
-      pub good-onward : early ≡ 0 → {mask : ℕ} → mask ≡ moves_into p (book_mask b) (leads_in b false x i) x
+      pub good_onward : early ≡ 0 → {mask : ℕ} → mask ≡ moves_into p (book_mask b) (leads_in b false x i) x
           → mask ≡ good_moves p b x i
       unfolding rule_in
-      good-onward z e =
+      good_onward z e =
           good_by (leads_in b false x i) lost
           (rw (s, none_can p (book_mask b) (earlier_in b x) x (sym leaves ∙ z)) (sym (leads_onward b x i))) e

@@ -72,28 +72,28 @@ module _ (s b : List ℕ) (x i y : ℕ) {here : Advice} (told : Advises (moves_f
 
     -- accepted for that too
     module _ (low : y < book_states b) where
-      pub next-fine : consult_fault b y here.seek ≡ 0
-      next-fine = asked.is_fine b y here.seek book_fine low seek_low
+      pub next_fine : consult_fault b y here.seek ≡ 0
+      next_fine = asked.is_fine b y here.seek book_fine low seek_low
 
-      step-fine : step_fault s b x i y ≡ 0
+      step_fine : step_fault s b x i y ≡ 0
       unfolding number_fault
-      step-fine = step_is ∙ rw (lt-leb (book_states b) y low, lt-leb (book_goals b) 0 (omega (arith, held.goal)))
+      step_fine = step_is ∙ rw (lt-leb (book_states b) y low, lt-leb (book_goals b) 0 (omega (arith, held.goal)))
 
       module _ {next : Advice} (after : ConsultSays b y here.seek next) where
         next_told : Advises (step_fault s b x i y) b y here.seek next
-        next_told = advises_fine step-fine next-fine after
+        next_told = advises_fine step_fine next_fine after
 
-        pub step-lost : here.lost ≡ true → StepSays s b x i y (record { here = here; leads = false; next = next })
-        step-lost l =
+        pub step_lost : here.lost ≡ true → StepSays s b x i y (record { here = here; leads = false; next = next })
+        step_lost l =
             let gone : is_lost b x ≡ true = sym lost_is ∙ l in
-            record { here = told; leads = rw (step-fine, gone); next = next_told }
+            record { here = told; leads = rw (step_fine, gone); next = next_told }
 
         pub step_kept : {leads : Bool} → here.lost ≡ false → leads ≡ is_in y (ends (plant_of s) x here.action)
             → StepSays s b x i y (record { here = here; leads = leads; next = next })
         step_kept k e =
             let kept : is_lost b x ≡ false = sym lost_is ∙ k in
             let action : here.action ≡ move_at b x (arrive b x i) = told.action ∙ rw (moves_fine, kept) in
-            record { here = told; leads = e ∙ rw (step-fine, kept, action); next = next_told }
+            record { here = told; leads = e ∙ rw (step_fine, kept, action); next = next_told }
 
       -- what the test of the arrow may rely on
       pub step_given : (plant_fault s ≡ 0) × ((x < (plant_of s).states) × (y < (plant_of s).states))

@@ -22,8 +22,8 @@ use Rattle.decoding.proofs.Header.{read_total}
 use Rattle.decoding.proofs.Bytes.{book_bytes_lem}
 use Rattle.decoding.proofs.Accepted.{book_count_lem, book_accepted}
 use Rattle.demands.proofs.Plants.{Given, some_goal, given_fits}
-use Rattle.demands.proofs.Rows.{IsKept, CanLeave, lost_kept, book_wait, book_stage, one_stage, no-wait}
-use Rattle.demands.proofs.Rules.{rule-iff, book-move, book-into}
+use Rattle.demands.proofs.Rows.{IsKept, CanLeave, lost_kept, book_wait, book_stage, one_stage, no_wait}
+use Rattle.demands.proofs.Rules.{rule_iff, book_move, book_into}
 use Rattle.demands.proofs.Winners.{Within, guides, winners, waits}
 use Rattle.demands.proofs.Staying.{leave_iff, stages_are}
 use Rattle.demands.proofs.Words.{lowest_as, never_leaves, plain_words, leave_words, onward_words}
@@ -45,10 +45,10 @@ module _ {p : Plant} {mask : ℕ} {within : ℕ → Bool} (given : Given p mask 
   book_lowest x i hi h =
       let b = book_within p mask within in
       record {
-        meets = (rule-iff given x h i hi (move_at b x i)).0 (book-into given x h i hi);
+        meets = (rule_iff given x h i hi (move_at b x i)).0 (book_into given x h i hi);
         none_lower = λ v l m.
-            not_both ((rule-iff given x h i hi v).1 m)
-            (move_lowest p mask (rule_in p b x i) x v (rw (book-move given x h i hi) at l));
+            not_both ((rule_iff given x h i hi v).1 m)
+            (move_lowest p mask (rule_in p b x i) x v (rw (book_move given x h i hi) at l));
       }
 
   -- where the plant settles its rows are what request (ix) says of them
@@ -67,7 +67,7 @@ module _ {p : Plant} {mask : ℕ} {within : ℕ → Bool} (given : Given p mask 
         );
         exit_wait = λ x i hx hi w q.
             let h = (winners given x).1 w in
-            (no-wait given x h i hi).1 (inr ((leave_iff given x h).1 q));
+            (no_wait given x h i hi).1 (inr ((leave_iff given x h).1 q));
         exit_move = λ x i hx hi w q.
             let h = (winners given x).1 w in
             lowest_as p mask x (move_at b x i) (Closer (IsKept p mask within) (CanLeave p mask within) b x i)
@@ -147,13 +147,13 @@ module _ {p : Plant} {mask : ℕ} {within : ℕ → Bool} (given : Given p mask 
             rw (book_wait given x i h hi) ((given_fits given).waits x i h hi);
         served = λ e x i hx hi w.
             let h = (winners given x).1 w in
-            Iff.trans (no-wait given x h i hi) (
+            Iff.trans (no_wait given x h i hi) (
               λ t. ⊎_elim (λ g. g) (λ l. absurd (never_leaves given x e h l)) t,
               λ g. inl g,
             );
         exit_served = λ e x i hx hi w.
             let h = (winners given x).1 w in
-            Iff.trans (no-wait given x h i hi) (
+            Iff.trans (no_wait given x h i hi) (
               λ t. ⊎_elim (λ g. inl g) (λ l. inr ((leave_iff given x h).0 l)) t,
               λ t. ⊎_elim (λ g. inl g) (λ q. inr ((leave_iff given x h).1 q)) t,
             );

@@ -22,7 +22,7 @@ use Rattle.winning.proofs.Following.{Closer}
 use Rattle.winning.proofs.Runs.{meets_larger}
 use Rattle.demands.proofs.Plants.{Given, moves_below, from_below}
 use Rattle.demands.proofs.Rows.{IsKept, CanLeave, lost_kept, book_mask_lem, book_goals_lem}
-use Rattle.demands.proofs.Rules.{rule-iff, book-move, book-into}
+use Rattle.demands.proofs.Rules.{rule_iff, book_move, book_into}
 use Rattle.demands.proofs.Winners.{Within, guides, winners}
 use Rattle.demands.proofs.Staying.{leave_iff}
 use Rattle.demands.proofs.Words.{meets_same, plain_words, leave_words, onward_words}
@@ -63,8 +63,8 @@ module _ {p : Plant} {mask : ℕ} {within : ℕ → Bool} (given : Given p mask 
   good_closer x i u hx hi = (
     λ g.
         let k = (lost_kept given x hx).0 (good_shown p (book_within p mask within) x i u g) in
-        (k, (rule-iff given x k i hi u).0 (sym (good_bit x i k u) ∙ g)),
-    λ g. good_bit x i g.0 u ∙ (rule-iff given x g.0 i hi u).1 g.1,
+        (k, (rule_iff given x k i hi u).0 (sym (good_bit x i k u) ∙ g)),
+    λ g. good_bit x i g.0 u ∙ (rule_iff given x g.0 i hi u).1 g.1,
   )
 
   -- so that they are available, and lead to kept states alone
@@ -134,8 +134,8 @@ module _ {p : Plant} {mask : ℕ} {within : ℕ → Bool} (given : Given p mask 
   listed_lowest x i hx hi e =
       let b = book_within p mask within in
       let k = (lost_kept given x hx).0 e in (
-        good_bit x i k (move_at b x i) ∙ book-into given x k i hi,
-        book-move given x k i hi ∙ rw (good_is x i k) (sym (moves_lowest p mask (rule_in p b x i) x)),
+        good_bit x i k (move_at b x i) ∙ book_into given x k i hi,
+        book_move given x k i hi ∙ rw (good_is x i k) (sym (moves_lowest p mask (rule_in p b x i) x)),
       )
 
   module _ (states goals moves : ℕ → ℕ) (begun : goals 0 < p.goals)
@@ -158,7 +158,7 @@ module _ {p : Plant} {mask : ℕ} {within : ℕ → Bool} (given : Given p mask 
         let b = book_within p mask within in
         let i = arrive b (states n) (goals n) in
         let into = sym (good_bit (states n) i (picks_kept n) (moves n)) ∙ picks.good n in
-        ((rule-iff given (states n) (picks_kept n) i hi (moves n)).0 into).ends_well (states (suc n)) (picks.leads n)
+        ((rule_iff given (states n) (picks_kept n) i hi (moves n)).0 into).ends_well (states (suc n)) (picks.leads n)
 
     -- the goal arrived at is always a goal
     goal_arrived : (n : ℕ) → goals n < p.goals → arrive (book_within p mask within) (states n) (goals n) < p.goals

@@ -14,7 +14,7 @@ use Rattle.sets.proofs.Tests.{and_left}
 use Rattle.sets.proofs.Iterate.{sifted_few}
 use Rattle.kept.proofs.Moves.{MovesBelow, available_bit, into_available}
 use Rattle.kept.proofs.Kept.{kept_sifted, for_sound, for_through, through_sifted, stage_range}
-use Rattle.kept.proofs.Waits.{wait-short, landing_move}
+use Rattle.kept.proofs.Waits.{wait_short, landing_move}
 use Rattle.decoding.proofs.Fits.{Fits}
 use Rattle.decoding.proofs.Masks.{less_ok}
 use Rattle.decoding.proofs.Faults.{PlantOk, plant_ok, arrow_range, allowed_below, make_ok, LentOk, withdraw_ok}
@@ -92,7 +92,7 @@ module _ {p : Plant} {mask : ℕ} {within : ℕ → Bool} (given : Given p mask 
             let s = stage_for p mask kept x in
             omega (
               arith,
-              wait-short p mask s some_goal (for_sound p mask within some_goal x h) i hi x
+              wait_short p mask s some_goal (for_sound p mask within some_goal x h) i hi x
                   (for_through p mask within some_goal x h),
               sifted_few p.states s.through (through_sifted p mask within some_goal x h),
             );

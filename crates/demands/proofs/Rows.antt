@@ -19,7 +19,7 @@ use Rattle.sets.proofs.Tests.{decided, not_both}
 use Rattle.sets.proofs.Members.{Sifted, sifted_sub}
 use Rattle.kept.proofs.Kept.{kept_within_lem, for_sound, for_through, earlier_sifted, through_sifted, shown_stage}
 use Rattle.kept.proofs.Kept.{through_iff, earlier_iff, same_stage}
-use Rattle.kept.proofs.Waits.{Sound, wait-goal, goal-wait, wait-exit, nearer_holds, nearer_in_lem, landing_exit}
+use Rattle.kept.proofs.Waits.{Sound, wait_goal, goal_wait, wait_exit, nearer_holds, nearer_in_lem, landing_exit}
 use Rattle.kept.proofs.Waits.{landing_nearer}
 use Rattle.winning.proofs.Following.{Closer}
 use Rattle.decoding.proofs.Header.{read_goals, read_mask, read_staged}
@@ -79,11 +79,11 @@ module _ {p : Plant} {mask : ℕ} {within : ℕ → Bool} (given : Given p mask 
       stage_at (book_within p mask within) x ≡ shown_stage p mask within (some_goal given) x
   unfolding book_within shown_stage
   book_stage x h =
-      let by-sort : Bool → ℕ = λ t. pick t (stage_of p mask (kept_within p mask within) x) 1 in
+      let by_sort : Bool → ℕ = λ t. pick t (stage_of p mask (kept_within p mask within) x) 1 in
       ⊎_elim
       (λ e.
-      stage_kept p mask (kept_within p mask within) e x (kept_within_lem p mask within x h).0 h ∙ sym (ap by-sort e))
-      (λ e. one_stage e x ∙ sym (ap by-sort e))
+      stage_kept p mask (kept_within p mask within) e x (kept_within_lem p mask within x h).0 h ∙ sym (ap by_sort e))
+      (λ e. one_stage e x ∙ sym (ap by_sort e))
       (decided p.settles)
 
   module _ (x i : ℕ) (h : IsKept p mask within x) (hi : i < p.goals) where
@@ -135,33 +135,33 @@ module _ {p : Plant} {mask : ℕ} {within : ℕ → Bool} (given : Given p mask 
       W y = wait_in p mask S.exits S.through i y
 
       -- waits worked out in the stage of x: those of its own stage are the book's, and those of earlier stages 0
-      pub wait-own : (y : ℕ) → IsKept p mask within y → stage_at B y ≡ stage_at B x → wait_at B y i ≡ W y
+      pub wait_own : (y : ℕ) → IsKept p mask within y → stage_at B y ≡ stage_at B x → wait_at B y i ≡ W y
       unfolding wait_of
-      wait-own y hy q =
+      wait_own y hy q =
           book_wait y i hy hi
           ∙ ap (λ (s : Stage). wait_in p mask s.exits s.through i y)
           (same_stage p mask within (some_goal given) x hx y hy (sym (book_stage y hy) ∙ q ∙ book_stage x hx))
 
-      pub wait-earlier : (y : ℕ) → IsKept p mask within y → stage_at B y < stage_at B x → W y ≡ 0
-      wait-earlier y hy l =
+      pub wait_earlier : (y : ℕ) → IsKept p mask within y → stage_at B y < stage_at B x → W y ≡ 0
+      wait_earlier y hy l =
           let m = (book_earlier y).1 (hy, l) in
-          wait-exit p mask S (some_goal given) sound i hi y (sound.lower y m) (sound.over y m)
+          wait_exit p mask S (some_goal given) sound i hi y (sound.lower y m) (sound.over y m)
 
       -- a wait is 0 exactly in the goal and where the state can leave
-      pub no-wait : (wait_at B x i ≡ 0) ↔ (InGoal p i x ⊎ CanLeave p mask within x)
-      no-wait = (
+      pub no_wait : (wait_at B x i ≡ 0) ↔ (InGoal p i x ⊎ CanLeave p mask within x)
+      no_wait = (
         λ e.
             ⊎_elim (λ t. inr t) (λ t. inl t)
-            (wait-goal p mask S (some_goal given) sound i hi x here (sym (wait-own x hx refl) ∙ e)),
+            (wait_goal p mask S (some_goal given) sound i hi x here (sym (wait_own x hx refl) ∙ e)),
         λ t.
-            wait-own x hx refl
-            ∙ ⊎_elim (goal-wait p mask S (some_goal given) sound i hi x here)
-            (wait-exit p mask S (some_goal given) sound i hi x here) t,
+            wait_own x hx refl
+            ∙ ⊎_elim (goal_wait p mask S (some_goal given) sound i hi x here)
+            (wait_exit p mask S (some_goal given) sound i hi x here) t,
       )
 
       -- where a move may end by the stage of x is where it is closer in the book
-      pub closer-landing : (y : ℕ) → Next i y → is_in y (landing p mask S i x) ≡ true
-      closer-landing y c =
+      pub closer_landing : (y : ℕ) → Next i y → is_in y (landing p mask S i x) ≡ true
+      closer_landing y c =
           ⊎_elim
           (λ e. rw (landing_exit p mask S (some_goal given) sound i hi x e)
           ((book_earlier y).1 (c.stays, c.leaving e)))
@@ -171,17 +171,17 @@ module _ {p : Plant} {mask : ℕ} {within : ℕ → Bool} (given : Given p mask 
         where
           less : 0 < W x → W y < W x
           less l =
-              let own = wait-own x hx refl in
+              let own = wait_own x hx refl in
               elim (dec_lt (stage_at B y) (stage_at B x)) [
-                | yes low ↦ omega (arith, l, wait-earlier y c.stays low)
+                | yes low ↦ omega (arith, l, wait_earlier y c.stays low)
                 | no low ↦
                     let same : stage_at B y ≡ stage_at B x = omega (arith, c.no_later) in
-                    ⊎_elim (λ w. omega (arith, w, own, wait-own y c.stays same)) (λ w. absurd (omega (arith, w, low)))
+                    ⊎_elim (λ w. omega (arith, w, own, wait_own y c.stays same)) (λ w. absurd (omega (arith, w, low)))
                     (c.nearing (omega (arith, l, own)))
               ]
 
-      pub landing-closer : (y : ℕ) → is_in y (landing p mask S i x) ≡ true → Next i y
-      landing-closer y m =
+      pub landing_closer : (y : ℕ) → is_in y (landing p mask S i x) ≡ true → Next i y
+      landing_closer y m =
           ⊎_elim
           (λ e.
           let q = (book_earlier y).0 (rw (landing_exit p mask S (some_goal given) sound i hi x e) at m) in
@@ -196,19 +196,19 @@ module _ {p : Plant} {mask : ℕ} {within : ℕ → Bool} (given : Given p mask 
             no_later = q.1;
             leaving = λ l. absurd (not_both l e);
             nearing = λ l.
-                let own = wait-own x hx refl in
+                let own = wait_own x hx refl in
                 elim (dec_lt (stage_at B y) (stage_at B x)) [
                   | yes low ↦ inr low
                   | no low ↦
                       let same : stage_at B y ≡ stage_at B x = omega (arith, q.1) in
-                      inl (omega (arith, r.1 (omega (arith, l, own)), own, wait-own y q.0 same))
+                      inl (omega (arith, r.1 (omega (arith, l, own)), own, wait_own y q.0 same))
                 ];
           })
           (decided (S.exits x))
 
-      pub landing-sifted : Sifted (numbers p.states 0) (landing p mask S i x)
+      pub landing_sifted : Sifted (numbers p.states 0) (landing p mask S i x)
       unfolding nearer
-      landing-sifted =
+      landing_sifted =
           ⊎_elim
           (λ e. rw (landing_exit p mask S (some_goal given) sound i hi x e)
           (earlier_sifted p mask within (some_goal given) x hx))

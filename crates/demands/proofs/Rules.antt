@@ -24,7 +24,7 @@ use Rattle.kept.proofs.Waits.{landing_move}
 use Rattle.winning.proofs.Following.{Closer}
 use Rattle.demands.proofs.Plants.{Given, some_goal}
 use Rattle.demands.proofs.Rows.{IsKept, CanLeave, book_mask_lem, book_sort, book_keeps, one_stage, listed_move_lem, sound}
-use Rattle.demands.proofs.Rows.{here, book_earlier, closer-landing, landing-closer, landing-sifted}
+use Rattle.demands.proofs.Rows.{here, book_earlier, closer_landing, landing_closer, landing_sifted}
 
 module _ {p : Plant} {mask : ℕ} {within : ℕ → Bool} (given : Given p mask within) where
   module _ (x : ℕ) (hx : IsKept p mask within x) where
@@ -39,9 +39,9 @@ module _ {p : Plant} {mask : ℕ} {within : ℕ → Bool} (given : Given p mask 
 
     module _ (i : ℕ) (hi : i < p.goals) where
       -- the rule read on the book's rows: the states of earlier stages
-      earlier-in : (y : ℕ) → (is_in y (earlier_in B x) ≡ true) ↔ (IsKept p mask within y × (stage_at B y < stage_at B x))
+      earlier_in_lem : (y : ℕ) → (is_in y (earlier_in B x) ≡ true) ↔ (IsKept p mask within y × (stage_at B y < stage_at B x))
       unfolding earlier_in
-      earlier-in y =
+      earlier_in_lem y =
           rw (book_keeps given) (
             λ m.
                 let r = filter_holds (λ z. ltb (stage_at B z) (stage_at B x)) (kept_within p mask within) y m in
@@ -51,46 +51,46 @@ module _ {p : Plant} {mask : ℕ} {within : ℕ → Bool} (given : Given p mask 
                 (lt-ltb _ _ q.1),
           )
 
-      earlier-in-sifted : Sifted (numbers p.states 0) (earlier_in B x)
+      earlier_in_sifted : Sifted (numbers p.states 0) (earlier_in B x)
       unfolding earlier_in
-      earlier-in-sifted =
+      earlier_in_sifted =
           rw (book_keeps given)
           (sifted_sub (λ z. ltb (stage_at B z) (stage_at B x)) (numbers p.states 0) (kept_within p mask within)
           (kept_sifted p mask within))
 
-      earlier-is : earlier_in B x ≡ S.earlier
-      earlier-is =
-          sifted_same (numbers p.states 0) (earlier_in B x) S.earlier earlier-in-sifted
+      earlier_is : earlier_in B x ≡ S.earlier
+      earlier_is =
+          sifted_same (numbers p.states 0) (earlier_in B x) S.earlier earlier_in_sifted
           (earlier_sifted p mask within (some_goal given) x hx)
-          (λ y m. (book_earlier given x hx y).1 ((earlier-in y).0 m)) (λ y m. (earlier-in y).1 ((book_earlier given x hx y).0 m))
+          (λ y m. (book_earlier given x hx y).1 ((earlier_in_lem y).0 m)) (λ y m. (earlier_in_lem y).1 ((book_earlier given x hx y).0 m))
 
       -- that of a state that can leave, of another one, and where the plant does not settle
-      rule-leave : p.settles ≡ true → S.exits x ≡ true → rule_in p B x i ≡ earlier_in B x
+      rule_leave : p.settles ≡ true → S.exits x ≡ true → rule_in p B x i ≡ earlier_in B x
       unfolding rule_in
-      rule-leave e l =
-          let can-go : can p (book_mask B) (earlier_in B x) x ≡ true = rw (book_mask_lem given, earlier-is) ((sound given x hx).leads x l) in
+      rule_leave e l =
+          let can-go : can p (book_mask B) (earlier_in B x) x ≡ true = rw (book_mask_lem given, earlier_is) ((sound given x hx).leads x l) in
           rw (book_sort given ∙ e, can-go) refl
 
-      rule-onward : p.settles ≡ true → S.exits x ≡ false → rule_in p B x i ≡ onward_in B x i
+      rule_onward : p.settles ≡ true → S.exits x ≡ false → rule_in p B x i ≡ onward_in B x i
       unfolding rule_in
-      rule-onward e l =
+      rule_onward e l =
           let stays : can p (book_mask B) (earlier_in B x) x ≡ false =
-          rw (book_mask_lem given, earlier-is)
+          rw (book_mask_lem given, earlier_is)
           (⊎_elim (λ c. absurd (not_both ((exits_iff p mask within (some_goal given) x hx x).1 c) l)) (λ c. c)
           (decided (can p mask S.earlier x))) in
           rw (book_sort given ∙ e, stays) refl
 
-      rule-plain : p.settles ≡ false → rule_in p B x i ≡ nearer_in B x i
+      rule_plain : p.settles ≡ false → rule_in p B x i ≡ nearer_in B x i
       unfolding rule_in
-      rule-plain e = rw (book_sort given ∙ e) refl
+      rule_plain e = rw (book_sort given ∙ e) refl
 
-      plain-stays : p.settles ≡ false → S.exits x ≡ false
-      plain-stays e = rw (for_plain p mask within (some_goal given) x hx e) refl
+      plain_stays : p.settles ≡ false → S.exits x ≡ false
+      plain_stays e = rw (for_plain p mask within (some_goal given) x hx e) refl
 
       -- the members of the rule's lists
-      onward-in : S.exits x ≡ false → (y : ℕ) → (is_in y (onward_in B x i) ≡ true) ↔ Next i y
+      onward_in_lem : S.exits x ≡ false → (y : ℕ) → (is_in y (onward_in B x i) ≡ true) ↔ Next i y
       unfolding onward_in
-      onward-in stays y =
+      onward_in_lem stays y =
           let w = wait_at B x i in
           let late : ℕ → Bool = λ z. eqb (stage_at B z) (stage_at B x) && (eqb w 0 || ltb (wait_at B z i) w) in
           rw (book_keeps given) (
@@ -134,9 +134,9 @@ module _ {p : Plant} {mask : ℕ} {within : ℕ → Bool} (given : Given p mask 
                 ]),
           )
 
-      nearer-is-in : p.settles ≡ false → (y : ℕ) → (is_in y (nearer_in B x i) ≡ true) ↔ Next i y
+      nearer_is_in : p.settles ≡ false → (y : ℕ) → (is_in y (nearer_in B x i) ≡ true) ↔ Next i y
       unfolding nearer_in
-      nearer-is-in e y =
+      nearer_is_in e y =
           let w = wait_at B x i in
           let one : (z : ℕ) → stage_at B z ≡ 1 = one_stage given e in
           rw (book_keeps given) (
@@ -145,7 +145,7 @@ module _ {p : Plant} {mask : ℕ} {within : ℕ → Bool} (given : Given p mask 
                 record {
                   stays = r.0;
                   no_later = omega (arith, one x, one y);
-                  leaving = λ t. absurd (not_both t (plain-stays e));
+                  leaving = λ t. absurd (not_both t (plain_stays e));
                   nearing = λ t.
                       ⊎_elim (λ z. absurd (omega (arith, t, eqb-true w 0 z))) (λ z. inl (ltb-true _ _ z))
                       (or_cases (eqb w 0) (ltb (wait_at B y i) w) r.1);
@@ -162,64 +162,64 @@ module _ {p : Plant} {mask : ℕ} {within : ℕ → Bool} (given : Given p mask 
           )
 
       -- they are the closer states
-      pub rule-members : (y : ℕ) → (is_in y (rule_in p B x i) ≡ true) ↔ Next i y
-      rule-members y =
+      pub rule_members : (y : ℕ) → (is_in y (rule_in p B x i) ≡ true) ↔ Next i y
+      rule_members y =
           ⊎_elim
           (λ e.
           ⊎_elim
-          (λ l. rw (rule-leave e l) (
+          (λ l. rw (rule_leave e l) (
             λ m.
-                let q = (earlier-in y).0 m in
+                let q = (earlier_in_lem y).0 m in
                 record { stays = q.0; no_later = omega (arith, q.1); leaving = λ t. q.1; nearing = λ t. inr q.1 },
-            λ c. (earlier-in y).1 (c.stays, c.leaving l),
+            λ c. (earlier_in_lem y).1 (c.stays, c.leaving l),
           ))
-          (λ l. rw (rule-onward e l) (onward-in l y))
+          (λ l. rw (rule_onward e l) (onward_in_lem l y))
           (decided (S.exits x)))
-          (λ e. rw (rule-plain e) (nearer-is-in e y))
+          (λ e. rw (rule_plain e) (nearer_is_in e y))
           (decided p.settles)
 
-      rule-sifted : Sifted (numbers p.states 0) (rule_in p B x i)
+      rule_sifted : Sifted (numbers p.states 0) (rule_in p B x i)
       unfolding onward_in nearer_in
-      rule-sifted =
+      rule_sifted =
           let all = numbers p.states 0 in
           let kept = kept_sifted p mask within in
           let w = wait_at B x i in
           ⊎_elim
           (λ e.
-          ⊎_elim (λ l. rw (rule-leave e l) earlier-in-sifted)
-          (λ l. rw (rule-onward e l, book_keeps given)
+          ⊎_elim (λ l. rw (rule_leave e l) earlier_in_sifted)
+          (λ l. rw (rule_onward e l, book_keeps given)
           (sifted_sub
           (λ y. ltb (stage_at B y) (stage_at B x) ||
           (eqb (stage_at B y) (stage_at B x) && (eqb w 0 || ltb (wait_at B y i) w)))
           all (kept_within p mask within) kept))
           (decided (S.exits x)))
-          (λ e. rw (rule-plain e, book_keeps given)
+          (λ e. rw (rule_plain e, book_keeps given)
           (sifted_sub (λ y. eqb w 0 || ltb (wait_at B y i) w) all (kept_within p mask within) kept))
           (decided p.settles)
 
-      rule-is : rule_in p B x i ≡ landing p mask S i x
-      rule-is =
-          sifted_same (numbers p.states 0) (rule_in p B x i) (landing p mask S i x) rule-sifted (landing-sifted given x hx i hi)
-          (λ y m. closer-landing given x hx i hi y ((rule-members y).0 m)) (λ y m. (rule-members y).1 (landing-closer given x hx i hi y m))
+      rule_is : rule_in p B x i ≡ landing p mask S i x
+      rule_is =
+          sifted_same (numbers p.states 0) (rule_in p B x i) (landing p mask S i x) rule_sifted (landing_sifted given x hx i hi)
+          (λ y m. closer_landing given x hx i hi y ((rule_members y).0 m)) (λ y m. (rule_members y).1 (landing_closer given x hx i hi y m))
 
       -- a move meets the rule of an entry exactly when it goes into them
-      pub rule-iff : (u : ℕ) → (goes_into p mask (rule_in p B x i) x u ≡ true) ↔ Meets p mask x (Next i) u
-      rule-iff u =
+      pub rule_iff : (u : ℕ) → (goes_into p mask (rule_in p B x i) x u ≡ true) ↔ Meets p mask x (Next i) u
+      rule_iff u =
           let near = rule_in p B x i in (
             λ h. record {
               is_available = into_available p mask near x u h;
-              ends_well = λ y m. (rule-members y).0 (into_ends p mask near x u h y m);
+              ends_well = λ y m. (rule_members y).0 (into_ends p mask near x u h y m);
             },
-            λ h. into_all p mask near x u h.is_available (λ y m. (rule-members y).1 (h.ends_well y m)),
+            λ h. into_all p mask near x u h.is_available (λ y m. (rule_members y).1 (h.ends_well y m)),
           )
 
       -- the book's move of a kept state is the lowest that does
-      pub book-move : move_at B x i ≡ move_into p mask (rule_in p B x i) x
+      pub book_move : move_at B x i ≡ move_into p mask (rule_in p B x i) x
       unfolding listed_move
-      book-move = listed_move_lem given x i hx hi ∙ ap (λ ys. move_into p mask ys x) (sym rule-is)
+      book_move = listed_move_lem given x i hx hi ∙ ap (λ ys. move_into p mask ys x) (sym rule_is)
 
       -- and so goes into them
-      pub book-into : goes_into p mask (rule_in p B x i) x (move_at B x i) ≡ true
+      pub book_into : goes_into p mask (rule_in p B x i) x (move_at B x i) ≡ true
       unfolding listed_move
-      book-into =
-          rw (listed_move_lem given x i hx hi, rule-is) (landing_move p mask S (some_goal given) (sound given x hx) i hi x (here given x hx)).1
+      book_into =
+          rw (listed_move_lem given x i hx hi, rule_is) (landing_move p mask S (some_goal given) (sound given x hx) i hi x (here given x hx)).1

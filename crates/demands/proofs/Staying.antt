@@ -105,9 +105,9 @@ module _ {p : Plant} {mask : ℕ} {within : ℕ → Bool} (given : Given p mask 
       inside m = w.1.holds.stays (turns states moves m) (states m) (r m)
 
       -- a run outside has not come to one that can leave
-      not-come : (n : ℕ) → ((m : ℕ) → m ≤ n → is_in (states m) First ≡ false) →
+      not_come : (n : ℕ) → ((m : ℕ) → m ≤ n → is_in (states m) First ≡ false) →
           Comes (Exits p mask (Within within) B (suc k)) states n → ⊥
-      not-come n out c =
+      not_come n out c =
           let m = c.0 in
           not_both
           (rw (stages_suc p mask within k) at
@@ -115,11 +115,11 @@ module _ {p : Plant} {mask : ℕ} {within : ℕ → Bool} (given : Given p mask 
           (exits_can e k (states m) c.2)))
           (out m c.1)
 
-      calm-at : (n : ℕ) → ((m : ℕ) → m ≤ n → is_in (states m) First ≡ false) → calm p mask within k (states n) ≡ true
-      calm-at n out =
+      calm_at : (n : ℕ) → ((m : ℕ) → m ≤ n → is_in (states m) First ≡ false) → calm p mask within k (states n) ≡ true
+      calm_at n out =
           ⊎_elim
           (λ t. and_true (inside n) (or_left (settled p (states n)) (can p mask (stages_to k p mask within) (states n)) t))
-          (λ c. absurd (not-come n out c))
+          (λ c. absurd (not_come n out c))
           (w.1.calm states moves r n)
 
     stays_in : ⊥
@@ -128,13 +128,13 @@ module _ {p : Plant} {mask : ℕ} {within : ℕ → Bool} (given : Given p mask 
         (escapes given (can p mask (stages_to k p mask within)) (calm p mask within k)
         (λ y q. and_left (within y) (settled p y || can p mask (stages_to k p mask within) y) q)
         (λ y. calm p mask within k y ≡ true) (λ y q s. inl s))
-        x o w.0 w.1.holds calm-at
+        x o w.0 w.1.holds calm_at
         (λ states moves r out.
         record {
-          calms = λ deny. deny (0, λ m l. calm-at states moves r m (λ j q. out j));
+          calms = λ deny. deny (0, λ m l. calm_at states moves r m (λ j q. out j));
           again = λ i n hi.
               let m = w.1.again states moves r i n hi in
-              (m.0, m.1, ⊎_elim (λ t. t) (λ c. absurd (not-come states moves r m.0 (λ j q. out j) c)) m.2);
+              (m.0, m.1, ⊎_elim (λ t. t) (λ c. absurd (not_come states moves r m.0 (λ j q. out j) c)) m.2);
         })
 
   -- the states of the first stages are those from which a strategy stays settled until it comes to earlier ones
@@ -165,12 +165,12 @@ module _ {p : Plant} {mask : ℕ} {within : ℕ → Bool} (given : Given p mask 
                 (m.0, m.1, inl m.2);
           },
         ),
-    λ w. (upto_shown e (suc k) x).0 (in-stage w),
+    λ w. (upto_shown e (suc k) x).0 (in_stage w),
   )
     where
-      in-stage : Stays p mask (Within within) (Exits p mask (Within within) B (suc k)) x →
+      in_stage : Stays p mask (Within within) (Exits p mask (Within within) B (suc k)) x →
           is_in x (stages_to (suc k) p mask within) ≡ true
-      in-stage w =
+      in_stage w =
           rw (stages_suc p mask within k)
           (⊎_elim (λ h. h) (λ o. absurd (stays_in e k x w o))
           (decided (is_in x (held_within p mask (can p mask (stages_to k p mask within)) (calm p mask within k)))))

@@ -18,7 +18,7 @@ use Rattle.kept.proofs.Held.{held_within_lem}
 use Rattle.kept.proofs.Stages.{stages_suc, stages_full, calm}
 use Rattle.kept.proofs.Kept.{kept_plain, kept_staged, kept_within_lem, shown_stage, shown_staged}
 use Rattle.kept.proofs.Kept.{same_stage, settled_or_leaves}
-use Rattle.kept.proofs.Waits.{level-wait, far_goal, far_step}
+use Rattle.kept.proofs.Waits.{level_wait, far_goal, far_step}
 use Rattle.kept.proofs.Ranks.{rank_of, goal_of, goal_range, escape}
 use Rattle.winning.proofs.Runs.{wins_larger}
 use Rattle.winning.proofs.Winners.{Escapes, no_run}
@@ -26,8 +26,8 @@ use Rattle.winning.proofs.Following.{Guides, Target, forces, follows}
 use Rattle.winning.proofs.Fewest.{too_far}
 use Rattle.demands.proofs.Plants.{Given, moves_below, some_goal}
 use Rattle.demands.proofs.Rows.{IsKept, CanLeave, lost_kept, book_goals_lem, book_stage, one_stage, sound, here}
-use Rattle.demands.proofs.Rows.{book_through, book_earlier, wait-own, no-wait}
-use Rattle.demands.proofs.Rules.{rule-iff, book-into}
+use Rattle.demands.proofs.Rows.{book_through, book_earlier, wait_own, no_wait}
+use Rattle.demands.proofs.Rules.{rule_iff, book_into}
 
 -- the states at which a test holds
 abbrev pub Within : (ℕ → Bool) → ℕ → Type 0
@@ -52,8 +52,8 @@ module _ {p : Plant} {mask : ℕ} {within : ℕ → Bool} (given : Given p mask 
       record {
         goals = book_goals_lem given;
         shown = λ x h. (lost_kept given x (kept_within_lem p mask within x h).0).1 h;
-        met = λ x i h hi e. (no-wait given x h i hi).0 e;
-        rule = λ x i h hi. (rule-iff given x h i hi (move_at B x i)).0 (book-into given x h i hi);
+        met = λ x i h hi e. (no_wait given x h i hi).0 e;
+        rule = λ x i h hi. (rule_iff given x h i hi (move_at B x i)).0 (book_into given x h i hi);
         from_one = from_one;
         calm = λ e x h. settled_or_leaves p mask within (some_goal given) x h e;
       }
@@ -195,8 +195,8 @@ module _ {p : Plant} {mask : ℕ} {within : ℕ → Bool} (given : Given p mask 
         let goal = some_goal given in
         ⊎_elim
         (λ l.
-        let w = level-wait p mask s goal fine i hi x (here given x h) n l in
-        omega (arith, w, wait-own given x h i hi x h refl))
+        let w = level_wait p mask s goal fine i hi x (here given x h) n l in
+        omega (arith, w, wait_own given x h i hi x h refl))
         (λ far.
         absurd (too_far p mask (λ y. IsKept p mask within y × (stage_at B y ≤ stage_at B x))
         (Target p (IsKept p mask within) (CanLeave p mask within) B x i)

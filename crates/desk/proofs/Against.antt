@@ -18,8 +18,8 @@ use Rattle.promises.specs.Says.{accepted, keeps, ConsultSays, Advises, step_faul
 use Rattle.promises.specs.Steps.{Steps}
 use Rattle.desk.specs.declared.Desk.{Desk}
 use Rattle.desk.specs.Desk.{strays, report_fault, goal_held, StartSays, ReportSays, Answering}
-use Rattle.desk.proofs.Answers.{lost_is, action_is, seek_is, goal-kept, goal-lost, fault-before, fault-after}
-use Rattle.desk.proofs.Answers.{strays-lost, strays-kept}
+use Rattle.desk.proofs.Answers.{lost_is, action_is, seek_is, goal_kept, goal_lost, fault_before, fault_after}
+use Rattle.desk.proofs.Answers.{strays_lost, strays_kept}
 
 module _ (steps : Steps) (determined : Determined) where
   -- an accepted advice is consult's
@@ -46,8 +46,8 @@ module _ (steps : Steps) (determined : Determined) where
       start_holds =
           let goal : r.goal ≡ goal_held b x 0 = says.goal ∙ rw start_fine refl in (
             says.state ∙ rw start_fine refl,
-            goal-kept start_fine says.shows goal,
-            goal-lost start_fine says.shows goal,
+            goal_kept start_fine says.shows goal,
+            goal_lost start_fine says.shows goal,
           )
 
     start_refused : (r.advice.number ≡ 0 → ⊥) → (r.state ≡ 0) × (r.goal ≡ 0)
@@ -65,9 +65,9 @@ module _ (steps : Steps) (determined : Determined) where
     module _ (here : Advice) (held : ConsultSays b x i here) where
       -- where plant, book and numbers are accepted
       module _ (fine : step_fault s b x i y ≡ 0) where
-        held-told : Advises (consult_fault b x i) b x i here
+        held_told : Advises (consult_fault b x i) b x i here
         unfolding accepted keeps
-        held-told =
+        held_told =
             record {
               number = held.number;
               lost = held.lost;
@@ -76,45 +76,45 @@ module _ (steps : Steps) (determined : Determined) where
               seek = held.seek;
             }
 
-        held-fine : consult_fault b x i ≡ 0
-        held-fine = steps.alone s b x i (steps.onward s b x i y fine).0
+        held_fine : consult_fault b x i ≡ 0
+        held_fine = steps.alone s b x i (steps.onward s b x i y fine).0
 
         -- the report strays exactly where consult says lost, or its move does not lead there
-        to-strays : (here.lost ≡ true) ⊎ (is_in y (ends (plant_of s) x here.action) ≡ false) →
+        to_strays : (here.lost ≡ true) ⊎ (is_in y (ends (plant_of s) x here.action) ≡ false) →
             strays s b x i y ≡ true
-        to-strays (inl l) = strays-lost s b x i y (sym (lost_is held-fine held-told) ∙ l)
-        to-strays (inr none) =
+        to_strays (inl l) = strays_lost s b x i y (sym (lost_is held_fine held_told) ∙ l)
+        to_strays (inr none) =
             elim (decided (is_lost b x)) [
-              | inl l ↦ strays-lost s b x i y l
-              | inr k ↦ strays-kept s b x i y k false (rw (action_is held-fine held-told k) at none)
+              | inl l ↦ strays_lost s b x i y l
+              | inr k ↦ strays_kept s b x i y k false (rw (action_is held_fine held_told k) at none)
             ]
 
-        of-strays : strays s b x i y ≡ true →
+        of_strays : strays s b x i y ≡ true →
             (here.lost ≡ true) ⊎ (is_in y (ends (plant_of s) x here.action) ≡ false)
-        of-strays t =
+        of_strays t =
             elim (decided (is_lost b x)) [
-              | inl l ↦ inl (lost_is held-fine held-told ∙ l)
+              | inl l ↦ inl (lost_is held_fine held_told ∙ l)
               | inr k ↦
-                  let e = strays-kept s b x i y k _ refl in
-                  inr (rw (action_is held-fine held-told k) (not-true _ (sym e ∙ t)))
+                  let e = strays_kept s b x i y k _ refl in
+                  inr (rw (action_is held_fine held_told k) (not-true _ (sym e ∙ t)))
             ]
 
       -- 13
-      to-thirteen : (step_fault s b x i y ≡ 0) ×
+      to_thirteen : (step_fault s b x i y ≡ 0) ×
           ((here.lost ≡ true) ⊎ (is_in y (ends (plant_of s) x here.action) ≡ false)) → r.advice.number ≡ 13
-      to-thirteen q = says.shows.number ∙ fault-after s b x i y q.0 true (to-strays q.0 q.1)
+      to_thirteen q = says.shows.number ∙ fault_after s b x i y q.0 true (to_strays q.0 q.1)
 
-      of-thirteen : r.advice.number ≡ 13 → (step_fault s b x i y ≡ 0) ×
+      of_thirteen : r.advice.number ≡ 13 → (step_fault s b x i y ≡ 0) ×
           ((here.lost ≡ true) ⊎ (is_in y (ends (plant_of s) x here.action) ≡ false))
-      of-thirteen e =
+      of_thirteen e =
           let is : report_fault s b x i y ≡ 13 = sym says.shows.number ∙ e in
           elim (same_number (step_fault s b x i y) 0) [
             | inl fine ↦
                 elim (decided (strays s b x i y)) [
-                  | inl t ↦ (fine, of-strays fine t)
-                  | inr f ↦ absurd (omega (arith, is, fault-after s b x i y fine false f))
+                  | inl t ↦ (fine, of_strays fine t)
+                  | inr f ↦ absurd (omega (arith, is, fault_after s b x i y fine false f))
                 ]
-            | inr d ↦ absurd (omega (arith, is, fault-before s b x i y d, steps.numbers s b x i y))
+            | inr d ↦ absurd (omega (arith, is, fault_before s b x i y d, steps.numbers s b x i y))
           ]
 
       -- accepted
@@ -126,17 +126,17 @@ module _ (steps : Steps) (determined : Determined) where
         step_is =
             elim (same_number (step_fault s b x i y) 0) [
               | inl fine ↦ fine
-              | inr d ↦ absurd (d (sym (fault-before s b x i y d) ∙ report_is))
+              | inr d ↦ absurd (d (sym (fault_before s b x i y d) ∙ report_is))
             ]
 
-        sought-here : here.seek ≡ arrive b x i
-        sought-here =
+        sought_here : here.seek ≡ arrive b x i
+        sought_here =
             elim (decided (strays s b x i y)) [
-              | inl t ↦ absurd (omega (arith, report_is, fault-after s b x i y step_is true t))
+              | inl t ↦ absurd (omega (arith, report_is, fault_after s b x i y step_is true t))
               | inr f ↦
-                  seek_is (held-fine step_is) (held-told step_is)
+                  seek_is (held_fine step_is) (held_told step_is)
                   (elim (decided (is_lost b x)) [
-                    | inl l ↦ absurd (not_both (strays-lost s b x i y l) f)
+                    | inl l ↦ absurd (not_both (strays_lost s b x i y l) f)
                     | inr k ↦ k
                   ])
             ]
@@ -144,7 +144,7 @@ module _ (steps : Steps) (determined : Determined) where
         report_consults : {a : Advice} → ConsultSays b y here.seek a → r.advice ≡ a
         report_consults {a} told =
             let asked : ConsultSays b y (arrive b x i) a =
-            subst (λ (g : ℕ). ConsultSays b y g a) sought-here told in
+            subst (λ (g : ℕ). ConsultSays b y g a) sought_here told in
             same report_is (steps.onward s b x i y step_is).1 says.shows asked
 
         report_holds : (r.state ≡ y) × (r.advice.lost ≡ false → r.goal ≡ r.advice.seek) ×
@@ -152,8 +152,8 @@ module _ (steps : Steps) (determined : Determined) where
         report_holds =
             let goal : r.goal ≡ goal_held b y (arrive b x i) = says.goal ∙ rw report_is refl in (
               says.state ∙ rw report_is refl,
-              goal-kept report_is says.shows goal,
-              λ l. goal-lost report_is says.shows goal l ∙ sym sought-here,
+              goal_kept report_is says.shows goal,
+              λ l. goal_lost report_is says.shows goal l ∙ sym sought_here,
             )
 
 -- answers with the same fields are the same
@@ -172,8 +172,8 @@ answering steps determined =
       start_refused = λ {s} {b} {x} {r} says h. start_refused steps determined s b x r says h;
       report_refused = λ {s} {b} {x} {i} {y} {r} says h. report_refused steps determined s b x i y r says h;
       thirteen = λ {s} {b} {x} {i} {y} {r} {here} says held. (
-        of-thirteen steps determined s b x i y r says here held,
-        to-thirteen steps determined s b x i y r says here held,
+        of_thirteen steps determined s b x i y r says here held,
+        to_thirteen steps determined s b x i y r says here held,
       );
       start_determined = λ h k.
           same_desk (determined.advice h.shows k.shows) (h.state ∙ sym k.state) (h.goal ∙ sym k.goal);

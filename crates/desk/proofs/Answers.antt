@@ -60,15 +60,15 @@ module _ {n : ℕ} {b : List ℕ} {x i : ℕ} {a : Advice} (fine : n ≡ 0) (say
       ]
 
   -- the goal held is the one answered, in a lost state the one sought
-  pub goal-kept : {g : ℕ} → g ≡ goal_held b x i → a.lost ≡ false → g ≡ a.seek
+  pub goal_kept : {g : ℕ} → g ≡ goal_held b x i → a.lost ≡ false → g ≡ a.seek
   unfolding goal_held
-  goal-kept e k =
+  goal_kept e k =
       let kept : is_lost b x ≡ false = sym lost_is ∙ k in
       e ∙ rw kept (sym (seek_is kept))
 
-  pub goal-lost : {g : ℕ} → g ≡ goal_held b x i → a.lost ≡ true → g ≡ i
+  pub goal_lost : {g : ℕ} → g ≡ goal_held b x i → a.lost ≡ true → g ≡ i
   unfolding goal_held
-  goal-lost e l =
+  goal_lost e l =
       let gone : is_lost b x ≡ true = sym lost_is ∙ l in
       e ∙ rw gone refl
 
@@ -79,42 +79,42 @@ module _ {s b : List ℕ} {x : ℕ} {a : Advice} (told : Advises (moves_fault s 
       let no : eqb (moves_fault s b x 0) 0 ≡ false = ne_eqb _ _ (λ z. h (told.number ∙ z)) in
       record { shows = told; state = rw no refl; goal = rw no refl }
 
-  pub start-shown : (g : ℕ) → a.number ≡ 0 → g ≡ pick a.lost 0 a.seek →
+  pub start_shown : (g : ℕ) → a.number ≡ 0 → g ≡ pick a.lost 0 a.seek →
       StartSays s b x (record { advice = a; state = x; goal = g })
-  start-shown g z e =
+  start_shown g z e =
       let fine : moves_fault s b x 0 ≡ 0 = sym told.number ∙ z in
       record { shows = told; state = rw fine refl; goal = rw fine (held_is fine told g e) }
 
 -- the number of a report
 module _ (s b : List ℕ) (x i y : ℕ) where
-  pub fault-before : (step_fault s b x i y ≡ 0 → ⊥) → report_fault s b x i y ≡ step_fault s b x i y
+  pub fault_before : (step_fault s b x i y ≡ 0 → ⊥) → report_fault s b x i y ≡ step_fault s b x i y
   unfolding report_fault
-  fault-before h = first_given (step_fault s b x i y) (when (strays s b x i y) 13) h
+  fault_before h = first_given (step_fault s b x i y) (when (strays s b x i y) 13) h
     where
       first_given : (n m : ℕ) → (n ≡ 0 → ⊥) → first_of n m ≡ n
       first_given zero m d = absurd (d refl)
       first_given (suc n) m d = refl
 
-  pub fault-after : step_fault s b x i y ≡ 0 → (t : Bool) → strays s b x i y ≡ t → report_fault s b x i y ≡ when t 13
+  pub fault_after : step_fault s b x i y ≡ 0 → (t : Bool) → strays s b x i y ≡ t → report_fault s b x i y ≡ when t 13
   unfolding report_fault
-  fault-after h t e = rw (h, e) refl
+  fault_after h t e = rw (h, e) refl
 
-  pub strays-lost : is_lost b x ≡ true → strays s b x i y ≡ true
+  pub strays_lost : is_lost b x ≡ true → strays s b x i y ≡ true
   unfolding strays
-  strays-lost l = rw l refl
+  strays_lost l = rw l refl
 
-  pub strays-kept : is_lost b x ≡ false → (t : Bool) → is_in y (ends (plant_of s) x (move_at b x (arrive b x i))) ≡ t →
+  pub strays_kept : is_lost b x ≡ false → (t : Bool) → is_in y (ends (plant_of s) x (move_at b x (arrive b x i))) ≡ t →
       strays s b x i y ≡ not t
   unfolding strays
-  strays-kept k t e = rw (k, e) refl
+  strays_kept k t e = rw (k, e) refl
 
 -- reporting
 module _ {s b : List ℕ} {x i y : ℕ} {r : Stepped} (told : StepSays s b x i y r) where
-  pub report-none : (r.next.number ≡ 0 → ⊥) →
+  pub report_none : (r.next.number ≡ 0 → ⊥) →
       ReportSays s b x i y (record { advice = r.next; state = x; goal = i })
-  report-none h =
+  report_none h =
       let not-fine : step_fault s b x i y ≡ 0 → ⊥ = λ z. h (told.next.number ∙ z) in
-      let same = fault-before s b x i y not-fine in
+      let same = fault_before s b x i y not-fine in
       let no : eqb (report_fault s b x i y) 0 ≡ false = ne_eqb _ _ (λ z. not-fine (sym same ∙ z)) in
       record {
         shows = silent_advises (sym same) (λ z. not-fine (sym same ∙ z)) (advises_silent not-fine told.next);
@@ -127,22 +127,22 @@ module _ {s b : List ℕ} {x i y : ℕ} {r : Stepped} (told : StepSays s b x i y
     fine = sym told.next.number ∙ z
 
     -- the move advised leads there, or the report strays
-    strays-is : strays s b x i y ≡ not r.leads
-    strays-is =
+    strays_is : strays s b x i y ≡ not r.leads
+    strays_is =
         elim (decided (is_lost b x)) [
           | inl l ↦
               let off : r.leads ≡ false = told.leads ∙ rw (fine, l) refl in
-              strays-lost s b x i y l ∙ rw off refl
+              strays_lost s b x i y l ∙ rw off refl
           | inr k ↦
               let is : r.leads ≡ is_in y (ends (plant_of s) x (move_at b x (arrive b x i))) =
               told.leads ∙ rw (fine, k) refl in
-              strays-kept s b x i y k r.leads (sym is)
+              strays_kept s b x i y k r.leads (sym is)
         ]
 
-    pub report-strays : {a : Advice} → r.leads ≡ false → Silent 13 a →
+    pub report_strays : {a : Advice} → r.leads ≡ false → Silent 13 a →
         ReportSays s b x i y (record { advice = a; state = x; goal = i })
-    report-strays off quiet =
-        let is : report_fault s b x i y ≡ 13 = fault-after s b x i y fine true (strays-is ∙ rw off refl) in
+    report_strays off quiet =
+        let is : report_fault s b x i y ≡ 13 = fault_after s b x i y fine true (strays_is ∙ rw off refl) in
         record {
           shows = silent_advises (sym is) (λ e. omega (arith, is, e)) quiet;
           state = rw is refl;
@@ -159,16 +159,16 @@ module _ {s b : List ℕ} {x i y : ℕ} {r : Stepped} (told : StepSays s b x i y
             | inr k ↦ k
           ]
 
-      sought-is : r.here.seek ≡ arrive b x i
-      sought-is = seek_is (steps.onward s b x i y fine).0 told.here kept
+      sought_is : r.here.seek ≡ arrive b x i
+      sought_is = seek_is (steps.onward s b x i y fine).0 told.here kept
 
-      pub report-shown : (g : ℕ) → g ≡ pick r.next.lost r.here.seek r.next.seek →
+      pub report_shown : (g : ℕ) → g ≡ pick r.next.lost r.here.seek r.next.seek →
           ReportSays s b x i y (record { advice = r.next; state = y; goal = g })
-      report-shown g e =
-          let is : report_fault s b x i y ≡ 0 = fault-after s b x i y fine false (strays-is ∙ rw yes refl) in
+      report_shown g e =
+          let is : report_fault s b x i y ≡ 0 = fault_after s b x i y fine false (strays_is ∙ rw yes refl) in
           let next : Advises (step_fault s b x i y) b y (arrive b x i) r.next =
-          subst (λ (h : ℕ). Advises (step_fault s b x i y) b y h r.next) sought-is told.next in
-          let sought : g ≡ pick r.next.lost (arrive b x i) r.next.seek = rw sought-is at e in
+          subst (λ (h : ℕ). Advises (step_fault s b x i y) b y h r.next) sought_is told.next in
+          let sought : g ≡ pick r.next.lost (arrive b x i) r.next.seek = rw sought_is at e in
           record {
             shows = subst (λ (n : ℕ). Advises n b y (arrive b x i) r.next) (fine ∙ sym is) next;
             state = rw is refl;

@@ -119,7 +119,7 @@ module _ (can : Can) (all : List ℕ) where
     unfolding attracted
     reached_attracted k x h =
         ⊎_elim
-        (λ l. reached-later k (length all) l x h)
+        (λ l. reached_later k (length all) l x h)
         (λ l. rw (← reached_full (length all) (omega arith) k l) h)
         (lt_or_le k (length all))
       where
@@ -127,23 +127,23 @@ module _ (can : Can) (all : List ℕ) where
         reached_more j y m =
             rw (reached_suc j) (grown_same (reached_in can done goal all j) y (reached_within j y m) m)
 
-        reached-later : (j m : ℕ) → j < m → Sub (reached_in can done goal all j) (reached_in can done goal all m)
-        reached-later j zero l y i = absurd (omega arith)
-        reached-later j (suc m) l y i =
+        reached_later : (j m : ℕ) → j < m → Sub (reached_in can done goal all j) (reached_in can done goal all m)
+        reached_later j zero l y i = absurd (omega arith)
+        reached_later j (suc m) l y i =
             ⊎_elim
             (λ e. reached_more m y (rw e at i))
-            (λ d. reached_more m y (reached-later j m (omega (arith, d)) y i))
+            (λ d. reached_more m y (reached_later j m (omega (arith, d)) y i))
             (same_number j m)
 
     -- nothing is reached without a target, where no node can go on into the empty set
     module _ (nothing : (x : ℕ) → can [] x ≡ false) where
-      none-reached : aims can done goal all ≡ [] → (k x : ℕ) → is_in x (reached_in can done goal all k) ≡ true → ⊥
-      none-reached e zero x h = is_in_none x (rw (reached_zero, e) at h)
-      none-reached e (suc k) x h =
+      none_reached : aims can done goal all ≡ [] → (k x : ℕ) → is_in x (reached_in can done goal all k) ≡ true → ⊥
+      none_reached e zero x h = is_in_none x (rw (reached_zero, e) at h)
+      none_reached e (suc k) x h =
           ⊎_elim
-          (λ m. none-reached e k x m)
+          (λ m. none_reached e k x m)
           (λ m.
-          let none = no_member (reached_in can done goal all k) (none-reached e k) in
+          let none = no_member (reached_in can done goal all k) (none_reached e k) in
           not_both m (ap (λ (ys : List ℕ). can ys x) none ∙ nothing x))
           (grown_holds (reached_in can done goal all k) x (rw (reached_suc k) at h)).1
 
@@ -154,7 +154,7 @@ module _ (can : Can) (all : List ℕ) where
       steps_low x h =
           elim (dec_lt 0 (length (aims can done goal all))) [
             | yes l ↦ by_length (length all) refl l
-            | no l ↦ absurd (none-reached (no_length (aims can done goal all) (omega arith)) (length all) x h)
+            | no l ↦ absurd (none_reached (no_length (aims can done goal all) (omega arith)) (length all) x h)
           ]
         where
           test : ℕ → Bool

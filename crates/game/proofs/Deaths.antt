@@ -90,25 +90,25 @@ module _ (gs starts rev : List ℕ) where
     module _ (ok' : ℕ → Bool) (j g : ℕ) (h : j < length rev) (e : get_or rev j 0 ≡ g) (no : ok' j ≡ false)
         (same : (i : ℕ) → (i ≡ j → ⊥) → ok i ≡ ok' i) where
       -- so the group as a whole does, and no other
-      whole-now : wholly rev ok' g ≡ false
+      whole_now : wholly rev ok' g ≡ false
       unfolding wholly
-      whole-now =
+      whole_now =
           every_none (length rev) 0 (λ i. not (eqb (get_or rev i 0) g) || ok' i) j (omega arith) (omega arith)
           (rw (e, eq-eqb g g refl, no))
 
-      whole-else : (k : ℕ) → (k ≡ g → ⊥) → wholly rev ok k ≡ wholly rev ok' k
-      whole-else k d =
+      whole_else : (k : ℕ) → (k ≡ g → ⊥) → wholly rev ok k ≡ wholly rev ok' k
+      whole_else k d =
           whole_same rev ok ok' k
           (λ i l t. same i (λ q. d (sym t ∙ (ap (λ (z : ℕ). get_or rev z 0) q ∙ e))))
 
       -- the group is dead already
-      pub dead-before : (get_or dead g 0 ≡ 0 → ⊥) → Marks gs starts rev ok' inside member live dead
-      dead-before d =
+      pub dead_before : (get_or dead g 0 ≡ 0 → ⊥) → Marks gs starts rev ok' inside member live dead
+      dead_before d =
           record {
             dead_is = λ k l.
                 ⊎_elim
-                (λ q. rw q (ne_eqb (get_or dead g 0) 0 d ∙ sym whole-now))
-                (λ q. c.dead_is k l ∙ whole-else k q)
+                (λ q. rw q (ne_eqb (get_or dead g 0) 0 d ∙ sym whole_now))
+                (λ q. c.dead_is k l ∙ whole_else k q)
                 (same_number k g);
             live_is = c.live_is;
             member_is = c.member_is;
@@ -121,15 +121,15 @@ module _ (gs starts rev : List ℕ) where
       module _ (gl : g < length gs) (f : ℕ) (ef : get_or gs g 0 ≡ f) (fn : f < nodes starts)
           (d : get_or dead g 0 ≡ 0) where
         -- what is stored, and the groups that are left of its node and of the others
-        dead-at : (k : ℕ) → k ≡ g → get_or (set dead g 1) k 0 ≡ 1
-        dead-at k q = stored dead g 1 k q (omega (arith, c.dead_long))
+        dead_at : (k : ℕ) → k ≡ g → get_or (set dead g 1) k 0 ≡ 1
+        dead_at k q = stored dead g 1 k q (omega (arith, c.dead_long))
 
         one_fewer : length (filter (alive gs dead f) (numbers (length gs) 0))
             ≡ suc (length (filter (alive gs (set dead g 1) f) (numbers (length gs) 0)))
         unfolding alive
         one_fewer =
             count_flip (length gs) g (alive gs dead f) (alive gs (set dead g 1) f) gl
-            (rw (ef, d, eq-eqb f f refl)) (rw (dead-at g refl) (and_off (eqb (get_or gs g 0) f)))
+            (rw (ef, d, eq-eqb f f refl)) (rw (dead_at g refl) (and_off (eqb (get_or gs g 0) f)))
             (λ z l q. rw (get_or-set_other dead g z 1 0 q))
 
         others_same : (y : ℕ) → (y ≡ f → ⊥) → (z : ℕ) → z < length gs
@@ -161,8 +161,8 @@ module _ (gs starts rev : List ℕ) where
             record {
               dead_is = λ k l.
                   ⊎_elim
-                  (λ q. rw (dead-at k q, q) (sym whole-now))
-                  (λ q. rw (get_or-set_other dead g k 1 0 q) (c.dead_is k l ∙ whole-else k q))
+                  (λ q. rw (dead_at k q, q) (sym whole_now))
+                  (λ q. rw (get_or-set_other dead g k 1 0 q) (c.dead_is k l ∙ whole_else k q))
                   (same_number k g);
               live_is = λ y l.
                   ⊎_elim
@@ -184,9 +184,9 @@ module _ (gs starts rev : List ℕ) where
             }
 
         -- it was the last of its node
-        pub died-last : get_or live f 0 - 1 ≡ 0
+        pub died_last : get_or live f 0 - 1 ≡ 0
             → Marks gs starts rev ok' inside (set member f 65535) (set live f (get_or live f 0 - 1)) (set dead g 1)
-        died-last z =
+        died_last z =
             died (set member f 65535) (rw (length-set member f 65535) c.member_long)
             (λ y l.
             ⊎_elim
@@ -199,9 +199,9 @@ module _ (gs starts rev : List ℕ) where
             (same_number y f))
 
         -- the same where its node has no mark
-        pub died-unmarked : get_or live f 0 - 1 ≡ 0 → 0 < get_or member f 0
+        pub died_unmarked : get_or live f 0 - 1 ≡ 0 → 0 < get_or member f 0
             → Marks gs starts rev ok' inside member (set live f (get_or live f 0 - 1)) (set dead g 1)
-        died-unmarked z out =
+        died_unmarked z out =
             died member c.member_long
             (λ y l.
             ⊎_elim
@@ -212,9 +212,9 @@ module _ (gs starts rev : List ℕ) where
             (same_number y f))
 
         -- its node has another
-        pub died-more : (get_or live f 0 - 1 ≡ 0 → ⊥)
+        pub died_more : (get_or live f 0 - 1 ≡ 0 → ⊥)
             → Marks gs starts rev ok' inside member (set live f (get_or live f 0 - 1)) (set dead g 1)
-        died-more z =
+        died_more z =
             died member c.member_long
             (λ y l.
             ⊎_elim

@@ -226,11 +226,11 @@ module _ (can : Can) (done : ℕ → Bool) (goal : ℕ → ℕ → Bool) (n goal
       cut_holds : (x : ℕ) → is_in x cut ≡ true → is_in x (attracted can done (goal g) set) ≡ true
       cut_holds x m = (all_holds can done (λ i. goal g) 1 set x m).1 0 (omega arith)
 
-      left-within : Sub left set
-      left-within x m = (all_holds can done (λ i. goal g) 1 set x (drained_within can done cut x m)).0
+      left_within : Sub left set
+      left_within x m = (all_holds can done (λ i. goal g) 1 set x (drained_within can done cut x m)).0
 
-      left-spares : Sub (held_after n goals can done goal set) left
-      left-spares =
+      left_spares : Sub (held_after n goals can done goal set) left
+      left_spares =
           let old = held_after n goals can done goal set in
           let forced : Sub old (attracted can done (goal g) old) =
           λ x m. (all_holds can done goal goals old x (rw (last_still set sifted) m)).1 g low in
@@ -240,15 +240,15 @@ module _ (can : Can) (done : ℕ → Bool) (goal : ℕ → ℕ → Bool) (n goal
           (λ i l. attracted_more can done more (goal g) old set (last_within set sifted) x (forced x m)))
           (λ x m. attracted_moves can done more (goal g) old x (forced x m))
 
-      pub goal-reduced : Reduced can done goal n goals g (g + 1) set left
-      goal-reduced =
+      pub goal_reduced : Reduced can done goal n goals g (g + 1) set left
+      goal_reduced =
           let whole = all_sifted can done (λ i. goal g) 1 (numbers n 0) set sifted in
           let sieve = drained_sifted can done (numbers n 0) cut whole in
           record {
             sifted = sieve;
             leaves =
                 record {
-                  within = left-within;
+                  within = left_within;
                   closed = λ ys x s a h.
                       drained_closed can done more (numbers n 0) cut ys whole x s
                       ((round_leaves can done (λ i. goal g) 1 set more).closed ys x
@@ -256,7 +256,7 @@ module _ (can : Can) (done : ℕ → Bool) (goal : ℕ → ℕ → Bool) (n goal
                 };
             forced = λ i a b x m.
                 let same : i ≡ g = omega arith in rw same (cut_holds x (drained_within can done cut x m));
-            held = same_last left sieve left-within left-spares;
+            held = same_last left sieve left_within left_spares;
           }
 
     -- nothing is struck out

@@ -183,32 +183,32 @@ module _ (graph : List ℕ) (n groups positions goals : ℕ) (ready : Ready grap
     module _ {member live dead list : List ℕ} {j tail : ℕ}
         (c : Taking graph n groups positions member₀ live₀ dead₀ list₀ head tail₀ member live dead list j tail) where
       -- the nodes on the list before are still on it
-      head-same : tail ≤ length list → (k : ℕ) → k ≤ tail₀ → (y : ℕ) → is_in y (take k list₀) ≡ true
+      head_same : tail ≤ length list → (k : ℕ) → k ≤ tail₀ → (y : ℕ) → is_in y (take k list₀) ≡ true
           → is_in y (take tail list) ≡ true
-      head-same room k h y m =
+      head_same room k h y m =
           let same : take k list ≡ take k list₀ =
           sym (take-take k tail₀ list h) ∙ (ap (take k) c.grown.same ∙ take-take k tail₀ list₀ h) in
           fewer_in list k tail y (omega (arith, c.grown.more)) room (rw same m)
 
       -- the next position
       module _ (more : j < get_or starts (x + 1) 0) where
-        pub taking-place : j < positions
-        taking-place =
+        pub taking_place : j < positions
+        taking_place =
             omega (arith, in_range rev starts gs ready.index x j node_low more, rev_length graph ready.fits)
 
         -- its group dies
-        pub taking-fails : (xs first : List ℕ)
+        pub taking_fails : (xs first : List ℕ)
             → Taken graph n groups positions xs first member₀ live₀ dead₀ list₀ head tail₀
             → Fails starts rev (struck starts x (without (take head list₀) xs) j)
             (struck starts x (without (take head list₀) xs) (j + 1)) (without (take tail list) xs) (get_or rev j 0)
         unfolding struck ends_at
-        taking-fails xs first t =
+        taking_fails xs first t =
             let ys = without (take head list₀) xs in
             let room = state_few (c.state xs first t) in
             let long : tail₀ ≤ length list₀ = omega (arith, state_few t.1) in
             record {
               place = j;
-              low = omega (arith, taking-place, rev_length graph ready.fits);
+              low = omega (arith, taking_place, rev_length graph ready.fits);
               of_group = refl;
               no = struck_now starts x ys j c.from;
               same = λ i d. struck_else starts x ys j i d;
@@ -217,13 +217,13 @@ module _ (graph : List ℕ) (n groups positions goals : ℕ) (ready : Ready grap
                   let r = without_holds y (take tail list) xs m in
                   let old : is_in y (take head list₀) ≡ false =
                   ⊎_elim
-                  (λ k. absurd (not_both (head-same room head (omega arith) y k) r.1))
+                  (λ k. absurd (not_both (head_same room head (omega arith) y k) r.1))
                   (λ k. k)
                   (decided (is_in y (take head list₀))) in
                   let other : y ≡ x → ⊥ =
                   λ q.
                   not_both
-                  (head-same room tail₀ (omega arith) y (rw q (take_in tail₀ head list₀ some long)))
+                  (head_same room tail₀ (omega arith) y (rw q (take_in tail₀ head list₀ some long)))
                   r.1 in
                   and_true (without_in y (take head list₀) xs r.0 old)
                   (ap not (outside i l other));
@@ -240,7 +240,7 @@ module _ (graph : List ℕ) (n groups positions goals : ℕ) (ready : Ready grap
                 (λ h. h)
                 (decided (leb (get_or starts x 0) i && ltb i (j + 1)))
 
-        pub taking-more : {member' live' dead' list' : List ℕ} {tail' : ℕ} → length member' ≡ length member
+        pub taking_more : {member' live' dead' list' : List ℕ} {tail' : ℕ} → length member' ≡ length member
             → length live' ≡ length live → length dead' ≡ length dead → length list' ≡ length list
             → Grown list list' tail tail'
             → ((ok after : ℕ → Bool) (xs first : List ℕ) → State ok xs first member live dead list tail
@@ -248,7 +248,7 @@ module _ (graph : List ℕ) (n groups positions goals : ℕ) (ready : Ready grap
             → State after xs first member' live' dead' list' tail')
             → Taking graph n groups positions member₀ live₀ dead₀ list₀ head tail₀ member' live' dead' list' (j + 1)
             tail'
-        taking-more {list' = list'} em el ed es grown step =
+        taking_more {list' = list'} em el ed es grown step =
             record {
               from = omega (arith, c.from);
               to = omega arith;
@@ -264,15 +264,15 @@ module _ (graph : List ℕ) (n groups positions goals : ℕ) (ready : Ready grap
                         ∙ (ap (take tail₀) grown.same
                         ∙ (take-take tail₀ tail list c.grown.more ∙ c.grown.same));
                   };
-              state = λ xs first t. step _ _ xs first (c.state xs first t) (taking-fails xs first t);
+              state = λ xs first t. step _ _ xs first (c.state xs first t) (taking_fails xs first t);
             }
 
       -- all are passed, and the node is off the list
-      pub taking-end : get_or starts (x + 1) 0 ≤ j → (xs first : List ℕ)
+      pub taking_end : get_or starts (x + 1) 0 ≤ j → (xs first : List ℕ)
           → Taken graph n groups positions xs first member₀ live₀ dead₀ list₀ head tail₀
           → Taken graph n groups positions xs first member live dead list (head + 1) tail
       unfolding struck ends_at
-      taking-end h xs first t =
+      taking_end h xs first t =
           let state = c.state xs first t in
           let ys = without (take head list₀) xs in
           let jj : j ≡ get_or starts (x + 1) 0 = omega (arith, c.to) in

@@ -20,9 +20,9 @@ use Rattle.game.specs.Draining.{drained, GoesOn}
 use Rattle.game.specs.Playing.{Ready, Reached, SoughtIn, Rest}
 use Rattle.game.proofs.Counts.{lt_or_le}
 use Rattle.game.proofs.Attractors.{Sub}
-use Rattle.game.proofs.Drained.{Rises, Reduced, goal-reduced, none_reduced}
+use Rattle.game.proofs.Drained.{Rises, Reduced, goal_reduced, none_reduced}
 use Rattle.game.proofs.Playing.{stays_reached, same_forced, round_next}
-use Rattle.game.proofs.Plays.{MarkedIn, RoundIn, rises, nothing, cut-is, waits-on}
+use Rattle.game.proofs.Plays.{MarkedIn, RoundIn, rises, nothing, cut_is, waits_on}
 
 -- goal i had one of so many turns before that of goal `at`
 abbrev Recent : ℕ → ℕ → ℕ → ℕ → Type 0
@@ -148,7 +148,7 @@ module _ (graph : List ℕ) (nodes groups positions goals : ℕ) where
     pub turn_on : (member live dead : List ℕ) → MarkedIn graph nodes groups positions goals set member live dead
         → GoesOn (waits_all column nodes 1) (labels_in graph nodes) set live
     turn_on =
-        waits-on graph nodes groups positions goals ready set r.sifted (λ i. goal at) 1 (omega arith) column columns
+        waits_on graph nodes groups positions goals ready set r.sifted (λ i. goal at) 1 (omega arith) column columns
 
     -- the nodes with a wait that go on are left, or all where there are as many targets as before
     module _ (anew : Bool) (test : anew ≡ not (eqb (get_or last' at 0) (get_or last at 0))) (left : List ℕ)
@@ -159,7 +159,7 @@ module _ (graph : List ℕ) (nodes groups positions goals : ℕ) where
           (sym (cut
           ∙ (ap (λ (b : Bool). pick b (drained can done (filter (waits_all column nodes 1) set)) set) test
           ∙ ap (λ (ys : List ℕ). pick (not (eqb (get_or last' at 0) (get_or last at 0))) (drained can done ys) set)
-          (cut-is graph nodes groups positions goals ready set r.sifted (λ i. goal at) 1 (omega arith) column
+          (cut_is graph nodes groups positions goals ready set r.sifted (λ i. goal at) 1 (omega arith) column
           columns))))
           (both (eqb (get_or last' at 0) (get_or last at 0)) refl)
         where
@@ -169,7 +169,7 @@ module _ (graph : List ℕ) (nodes groups positions goals : ℕ) where
           both : (b : Bool) → eqb (get_or last' at 0) (get_or last at 0) ≡ b
               → Reduced can done goal nodes goals at (at + 1) set
               (pick (not b) (drained can done (attracted_all 1 can done (λ i. goal at) set)) set)
-          both false e = goal-reduced can done goal nodes goals rise set r.sifted at q.low
+          both false e = goal_reduced can done goal nodes goals rise set r.sifted at q.low
           both true e =
               none_reduced can done goal nodes goals rise set r.sifted at (at + 1)
               (λ i a b.
@@ -179,22 +179,22 @@ module _ (graph : List ℕ) (nodes groups positions goals : ℕ) where
               (nothing graph nodes groups positions goals ready) at last waits
               (sym (eqb-true (get_or last' at 0) (get_or last at 0) e) ∙ own.targets) (r.older at q.low)))
 
-      pub turn-round : RoundIn graph nodes groups positions goals start left last' waits'
-      turn-round = round_next can done goal nodes goals start set left last waits last' waits' at (at + 1) r k reduced
+      pub turn_round : RoundIn graph nodes groups positions goals start left last' waits'
+      turn_round = round_next can done goal nodes goals start set left last waits last' waits' at (at + 1) r k reduced
 
       -- no more than before
-      pub turn-few : length left ≤ length set
-      turn-few = sifted_longer (numbers nodes 0) left set reduced.sifted r.sifted reduced.leaves.within
+      pub turn_few : length left ≤ length set
+      turn_few = sifted_longer (numbers nodes 0) left set reduced.sifted r.sifted reduced.leaves.within
 
       -- as many: one more turn
       module _ (less : turns < goals) (still : length set ≤ length left) where
         same_set : left ≡ set
         same_set =
             sifted_as_long (numbers nodes 0) left set reduced.sifted r.sifted reduced.leaves.within
-            (omega (arith, turn-few))
+            (omega (arith, turn_few))
 
-        quiet-more : Quiet set last' waits' (pick (ltb (at + 1) goals) (at + 1) 0) (turns + 1)
-        quiet-more =
+        quiet_more : Quiet set last' waits' (pick (ltb (at + 1) goals) (at + 1) 0) (turns + 1)
+        quiet_more =
             record {
               low = after_low goals at q.low;
               few = omega arith;
@@ -219,10 +219,10 @@ module _ (graph : List ℕ) (nodes groups positions goals : ℕ) where
                 (k.stays i (⊎_elim (λ a. inl a) (λ a. inr (omega (arith, d))) (lt_or_le i at))) set (q.reached i h o)
 
       -- the turn's end
-      pub turn-quiet : {kept number next quiet : ℕ} → turns < goals → length set ≡ kept → number ≡ length left
+      pub turn_quiet : {kept number next quiet : ℕ} → turns < goals → length set ≡ kept → number ≡ length left
           → next ≡ pick (ltb (at + 1) goals) (at + 1) 0 → quiet ≡ pick (ltb number kept) 0 (turns + 1)
           → Quiet left last' waits' next quiet
-      turn-quiet less ek en ex eq = rw (ex, eq, en, ← ek) (after (ltb (length left) (length set)) refl)
+      turn_quiet less ek en ex eq = rw (ex, eq, en, ← ek) (after (ltb (length left) (length set)) refl)
         where
           after : (b : Bool) → ltb (length left) (length set) ≡ b
               → Quiet left last' waits' (pick (ltb (at + 1) goals) (at + 1) 0) (pick b 0 (turns + 1))
@@ -231,4 +231,4 @@ module _ (graph : List ℕ) (nodes groups positions goals : ℕ) where
               let still = ltb-false (length left) (length set) e in
               subst
               (λ (ys : List ℕ). Quiet ys last' waits' (pick (ltb (at + 1) goals) (at + 1) 0) (turns + 1))
-              (sym (same_set less still)) (quiet-more less still)
+              (sym (same_set less still)) (quiet_more less still)

@@ -82,11 +82,11 @@ module _ (starts rev gs member w₀ : List ℕ) where
             (rw yp (and_off (eqb (get_or rev jj 0) g))) (λ z i x. rw (same z i x))
 
         -- its counter is not 0
-        pub counter-some : 0 < get_or cnt g 0
-        counter-some = omega (arith, c.counted g gl, one_fewer)
+        pub counter_some : 0 < get_or cnt g 0
+        counter_some = omega (arith, c.counted g gl, one_fewer)
 
-        other-count : (k : ℕ) → (k ≡ g → ⊥) → (z : ℕ) → z < length rev → waiting rev done k z ≡ waiting rev done' k z
-        other-count k q z l =
+        other_count : (k : ℕ) → (k ≡ g → ⊥) → (z : ℕ) → z < length rev → waiting rev done k z ≡ waiting rev done' k z
+        other_count k q z l =
             ⊎_elim
             (λ x.
             let d : eqb (get_or rev z 0) k ≡ false =
@@ -115,7 +115,7 @@ module _ (starts rev gs member w₀ : List ℕ) where
             (λ q.
             get_or-set_other cnt g k (get_or cnt g 0 - 1) 0 q
             ∙ (c.counted k l
-            ∙ ap length (count_same (length rev) (waiting rev done k) (waiting rev done' k) (other-count k q))))
+            ∙ ap length (count_same (length rev) (waiting rev done k) (waiting rev done' k) (other_count k q))))
             (same_number k g)
 
         -- one position passed
@@ -161,32 +161,32 @@ module _ (starts rev gs member w₀ : List ℕ) where
       was : (y : ℕ) → y ≡ f → get_or w y 0 ≡ 65535
       was y q = ap (λ (z : ℕ). get_or w z 0) q ∙ e
 
-      off-f : (y : ℕ) → (y ≡ f → ⊥) → get_or (set w f (v + 1)) y 0 ≡ get_or w y 0
-      off-f y q = get_or-set_other w f y (v + 1) 0 q
+      off_f : (y : ℕ) → (y ≡ f → ⊥) → get_or (set w f (v + 1)) y 0 ≡ get_or w y 0
+      off_f y q = get_or-set_other w f y (v + 1) 0 q
 
       -- ends with a wait of at most k had it before, for k below the mark
       still : (b k : ℕ) → k < 65535 → Within starts rev w b k → Within starts rev (set w f (v + 1)) b k
       still b k s p j i t = omega (arith, p j i t, low (node_at starts j) (omega (arith, p j i t)))
 
-      raised-start : (y : ℕ) → y < nodes starts → ltb (get_or (set w f (v + 1)) y 0) 1 ≡ ltb (get_or w₀ y 0) 1
-      raised-start y k =
+      raised_start : (y : ℕ) → y < nodes starts → ltb (get_or (set w f (v + 1)) y 0) 1 ≡ ltb (get_or w₀ y 0) 1
+      raised_start y k =
           ⊎_elim
           (λ q.
           let marked : ltb (get_or w y 0) 1 ≡ false = le-ltb (get_or w y 0) 1 (omega (arith, was y q)) in
           le-ltb (get_or (set w f (v + 1)) y 0) 1 (omega (arith, at_f y q)) ∙ (sym marked ∙ c.start y k))
-          (λ q. rw (off-f y q) (c.start y k))
+          (λ q. rw (off_f y q) (c.start y k))
           (same_number y f)
 
-      raised-sound : (y k : ℕ) → y < nodes starts → get_or (set w f (v + 1)) y 0 ≡ suc k → suc k < 65535
+      raised_sound : (y k : ℕ) → y < nodes starts → get_or (set w f (v + 1)) y 0 ≡ suc k → suc k < 65535
           → (b : ℕ) × ((b < length gs)
           × ((get_or gs b 0 ≡ y) × (Has rev b × Within starts rev (set w f (v + 1)) b k)))
-      raised-sound y k l q s =
+      raised_sound y k l q s =
           ⊎_elim
           (λ x.
           let same : v ≡ k = omega (arith, q, at_f y x) in
           (g, (gl, (gf ∙ sym x, (has, still g k (omega arith) (rw same at all))))))
           (λ x.
-          let o = c.sound y k l (sym (off-f y x) ∙ q) s in
+          let o = c.sound y k l (sym (off_f y x) ∙ q) s in
           (o.0, (o.1.0, (o.1.1.0, (o.1.1.1.0, still o.0 k (omega arith) o.1.1.1.1)))))
           (same_number y f)
 
@@ -204,18 +204,18 @@ module _ (starts rev gs member w₀ : List ℕ) where
             passes = λ j k p.
                 let d = c.passes j k p in
                 omega (arith, low (node_at starts j) (omega arith));
-            start = raised-start;
-            rest = λ y k. off-f y (λ q. omega arith) ∙ c.rest y k;
+            start = raised_start;
+            rest = λ y k. off_f y (λ q. omega arith) ∙ c.rest y k;
             inside = λ y k p l.
                 ⊎_elim
                 (λ q. rw q kf)
-                (λ q. c.inside y k (omega (arith, off-f y q)) (omega (arith, off-f y q)))
+                (λ q. c.inside y k (omega (arith, off_f y q)) (omega (arith, off_f y q)))
                 (same_number y f);
-            sound = raised-sound;
+            sound = raised_sound;
             complete = λ b k l kk a p q.
                 let o = c.complete b k l kk a p (earlier b k p q) in
                 ⊎_elim
                 (λ x. omega (arith, o, at_f (get_or gs b 0) x, was (get_or gs b 0) x))
-                (λ x. omega (arith, o, off-f (get_or gs b 0) x))
+                (λ x. omega (arith, o, off_f (get_or gs b 0) x))
                 (same_number (get_or gs b 0) f);
           }

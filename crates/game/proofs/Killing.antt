@@ -22,7 +22,7 @@ use Rattle.game.specs.Draining.{Draining, Fails}
 use Rattle.game.proofs.Counts.{and_on, and_off, count_flip}
 use Rattle.game.proofs.Parts.{groups_length, starts_nodes}
 use Rattle.game.proofs.Standing.{can_more}
-use Rattle.game.proofs.Deaths.{other_tests, unmark, dead-before, some_left, died-last, died-unmarked, died-more}
+use Rattle.game.proofs.Deaths.{other_tests, unmark, dead_before, some_left, died_last, died_unmarked, died_more}
 use Rattle.game.proofs.Strikes.{without_holds, without_in}
 use Rattle.game.proofs.Pushing.{can_live, pushed_in, pushed_without, without_more, without_count, same_list}
 
@@ -90,7 +90,7 @@ module _ (graph : List ℕ) (n groups positions goals : ℕ) (ready : Ready grap
     pub kill_dead : 0 < get_or dead g 0 → Draining graph n groups positions after xs first member live dead list tail
     kill_dead d =
         same_list c
-        (dead-before gs starts rev ok (λ x. is_in x rest) member live dead c.marks
+        (dead_before gs starts rev ok (λ x. is_in x rest) member live dead c.marks
         after fails.place g fails.low fails.of_group fails.no fails.same (λ z. omega arith))
         c.others
 
@@ -101,24 +101,24 @@ module _ (graph : List ℕ) (n groups positions goals : ℕ) (ready : Ready grap
       abbrev dead' : List ℕ
       dead' = set dead g 1
 
-      pub kill-some : 0 < get_or live f 0
-      kill-some =
+      pub kill_some : 0 < get_or live f 0
+      kill_some =
           some_left gs starts rev ok (λ x. is_in x rest) member live dead c.marks after
           fails.place g fails.low fails.of_group fails.no fails.same group_low f own kill_node d
 
       -- the other nodes have as many groups as before
-      live-else : (x : ℕ) → (x ≡ f → ⊥) → get_or live' x 0 ≡ get_or live x 0
-      live-else x q = get_or-set_other live f x (get_or live f 0 - 1) 0 q
+      live_else : (x : ℕ) → (x ≡ f → ⊥) → get_or live' x 0 ≡ get_or live x 0
+      live_else x q = get_or-set_other live f x (get_or live f 0 - 1) 0 q
 
       live_own : get_or live' f 0 ≡ get_or live f 0 - 1
       live_own = get_or-set_same live f (get_or live f 0 - 1) 0 (omega (arith, c.marks.live_long, kill_node))
 
       -- a node of the set that is not on the list is marked
-      marked-on : is_in f xs ≡ true → is_in f (take tail list) ≡ false → get_or member f 0 < 1
-      marked-on a b =
+      marked_on : is_in f xs ≡ true → is_in f (take tail list) ≡ false → get_or member f 0 < 1
+      marked_on a b =
           ltb-true (get_or member f 0) 1
           (c.marks.member_is f kill_node
-          ∙ and_true (without_in f (take tail list) xs a b) (lt-ltb 0 (get_or live f 0) kill-some))
+          ∙ and_true (without_in f (take tail list) xs a b) (lt-ltb 0 (get_or live f 0) kill_some))
 
       -- nothing more changes, if its node has another group or no mark
       kept : Marks gs starts rev after (λ x. is_in x rest) member live' dead'
@@ -131,43 +131,43 @@ module _ (graph : List ℕ) (n groups positions goals : ℕ) (ready : Ready grap
           (λ q.
           let is : get_or live' x 0 ≡ get_or live f 0 - 1 = ap (λ (y : ℕ). get_or live' y 0) q ∙ live_own in
           inr (omega (arith, some (rw q at a) (rw q at b))))
-          (λ q. rw (live-else x q) (c.others x a b))
+          (λ q. rw (live_else x q) (c.others x a b))
           (same_number x f))
 
-      pub kill-more : 0 < get_or live f 0 - 1
+      pub kill_more : 0 < get_or live f 0 - 1
           → Draining graph n groups positions after xs first member live' dead' list tail
-      kill-more l =
+      kill_more l =
           kept
-          (died-more gs starts rev ok (λ x. is_in x rest) member live dead c.marks after
+          (died_more gs starts rev ok (λ x. is_in x rest) member live dead c.marks after
           fails.place g fails.low fails.of_group fails.no fails.same group_low f own kill_node d
           (λ z. omega arith))
           (λ a b. l)
 
       module _ (z : get_or live f 0 - 1 ≡ 0) where
-        pub kill-unmarked : 0 < get_or member f 0
+        pub kill_unmarked : 0 < get_or member f 0
             → Draining graph n groups positions after xs first member live' dead' list tail
-        kill-unmarked out =
+        kill_unmarked out =
             kept
-            (died-unmarked gs starts rev ok (λ x. is_in x rest) member live dead c.marks
+            (died_unmarked gs starts rev ok (λ x. is_in x rest) member live dead c.marks
             after fails.place g fails.low fails.of_group fails.no fails.same group_low f own kill_node d
             z out)
-            (λ a b. absurd (let m = marked-on a b in omega arith))
+            (λ a b. absurd (let m = marked_on a b in omega arith))
 
         -- its node has no group left, and loses its mark
-        last-marks : Marks gs starts rev after (λ x. is_in x rest) (set member f 65535) live' dead'
-        last-marks =
-            died-last gs starts rev ok (λ x. is_in x rest) member live dead c.marks after
+        last_marks : Marks gs starts rev after (λ x. is_in x rest) (set member f 65535) live' dead'
+        last_marks =
+            died_last gs starts rev ok (λ x. is_in x rest) member live dead c.marks after
             fails.place g fails.low fails.of_group fails.no fails.same group_low f own kill_node d z
 
         -- a run is over there
-        pub kill-over : done f ≡ true
+        pub kill_over : done f ≡ true
             → Draining graph n groups positions after xs first (set member f 65535) live' dead' list tail
-        kill-over t =
-            same_list c last-marks
+        kill_over t =
+            same_list c last_marks
             (λ x a b.
             ⊎_elim
             (λ q. inl (rw q t))
-            (λ q. rw (live-else x q) (c.others x a b))
+            (λ q. rw (live_else x q) (c.others x a b))
             (same_number x f))
 
         -- or it is in the set and not on the list yet
@@ -220,7 +220,7 @@ module _ (graph : List ℕ) (n groups positions goals : ℕ) (ready : Ready grap
                 (λ y k. without_in y (take tail list) xs (within y k) (free y k)) (rw q at h) in
                 let some =
                 can_live gs starts rev after (λ y. is_in y rest) (set member f 65535) live' dead'
-                last-marks rest fails.passes f kill_node into in
+                last_marks rest fails.passes f kill_node into in
                 omega (arith, some, live_own))
                 (goes x m)
 
@@ -232,7 +232,7 @@ module _ (graph : List ℕ) (n groups positions goals : ℕ) (ready : Ready grap
             new-marks =
                 let un =
                 unmark gs starts rev after (λ x. is_in x rest) (set member f 65535) live' dead'
-                last-marks f kill_node in
+                last_marks f kill_node in
                 other_tests gs starts rev after after
                 (λ y. is_in y rest && not (eqb y f))
                 (λ y. is_in y (without (take (tail + 1) list') xs)) (set member f 65535) live' dead' (λ i l. refl)
@@ -278,7 +278,7 @@ module _ (graph : List ℕ) (n groups positions goals : ℕ) (ready : Ready grap
                       let both =
                       or_neither (is_in x (take tail list)) (eqb x f) (sym (pushed_in list tail f push-room x) ∙ b) in
                       let other : x ≡ f → ⊥ = λ q. not_both (eq-eqb x f q) both.1 in
-                      rw (live-else x other) (c.others x a both.0);
+                      rw (live_else x other) (c.others x a both.0);
                   spares = λ part within goes x m.
                       let free = c.spares part within goes in
                       let out =

@@ -17,7 +17,7 @@ use Rattle.game.specs.Steps.{Groups, Queue, popped, passed, last_wait, Index, Wa
 use Rattle.game.proofs.Counts.{lt_or_le, or_false, or_true, and_off, is_in_append}
 use Rattle.game.proofs.Nodes.{node_is, node_iff, in_range}
 use Rattle.game.proofs.Queue.{queue_push, queue_most, queue_room, wider_queue}
-use Rattle.game.proofs.Groups.{wider_groups, last_one, counter-some, tick, raise}
+use Rattle.game.proofs.Groups.{wider_groups, last_one, counter_some, tick, raise}
 
 -- the positions of node t before j are passed
 pub record Pass (rev starts gs member w₀ q₀ : List ℕ) (head t v : ℕ) (cnt w q : List ℕ) (tail j : ℕ) : Type 0 where
@@ -109,7 +109,7 @@ module _ (rev starts gs member w₀ q₀ : List ℕ) (head t v : ℕ) (x : Index
 
     pub counted_down : 0 < get_or cnt g 0
     counted_down =
-        counter-some starts rev gs member w₀ (passed starts q₀ head (get_or starts t 0) j) v cnt w c.groups j g here e
+        counter_some starts rev gs member w₀ (passed starts q₀ head (get_or starts t 0) j) v cnt w c.groups j g here e
         group_in (not_yet j c.from h) (passed starts q₀ head (get_or starts t 0) (j + 1)) (now_yes j c.from)
         (λ i a d. others j i d)
 
@@ -183,8 +183,8 @@ module _ (rev starts gs member w₀ q₀ : List ℕ) (head t v : ℕ) (x : Index
     -- what the test of a position tells: all three numbers are 0 exactly where the node is reached
     module _ (miss : ℕ)
         (em : miss ≡ get_or cnt g 0 - 1 + (65535 - get_or w (get_or gs g 0) 0) + get_or member (get_or gs g 0) 0) where
-      pub pass-top : miss ≡ 0 → get_or w (get_or gs g 0) 0 ≡ 65535
-      pass-top z =
+      pub pass_top : miss ≡ 0 → get_or w (get_or gs g 0) 0 ≡ 65535
+      pass_top z =
           ⊎_elim
           (λ a.
           absurd
@@ -193,13 +193,13 @@ module _ (rev starts gs member w₀ q₀ : List ℕ) (head t v : ℕ) (x : Index
           (c.queue.valid (get_or gs g 0) node_in)
 
       -- there is room for it in the queue
-      pub pass-room : miss ≡ 0 → tail < nodes starts
-      pass-room z =
-          queue_room (nodes starts) w q tail (v + 1) c.queue (get_or gs g 0) node_in (pass-top z)
+      pub pass_room : miss ≡ 0 → tail < nodes starts
+      pass_room z =
+          queue_room (nodes starts) w q tail (v + 1) c.queue (get_or gs g 0) node_in (pass_top z)
 
-      pub pass-miss : (miss ≡ 0 → ⊥)
+      pub pass_miss : (miss ≡ 0 → ⊥)
           → Pass rev starts gs member w₀ q₀ head t v (set cnt g (get_or cnt g 0 - 1)) w q tail (j + 1)
-      pass-miss z =
+      pass_miss z =
           pass_plain
           (λ a b. ⊎_elim (λ y. y) (λ y. absurd (z (omega arith))) (c.queue.valid (get_or gs g 0) node_in))
 
@@ -210,7 +210,7 @@ module _ (rev starts gs member w₀ q₀ : List ℕ) (head t v : ℕ) (x : Index
       (set q tail (get_or gs g 0)) (tail + 1) (j + 1)
   pass_hit cnt w q tail j g h e c miss em z =
       let some = counted_down cnt w q tail j g h e c in
-      let top = pass-top cnt w q tail j g h e c miss em z in
+      let top = pass_top cnt w q tail j g h e c miss em z in
       let reach = pass_reach cnt w q tail j g h e c (omega arith) (omega arith) top in
       pass_plain cnt (set w (get_or gs g 0) (v + 1)) (set q tail (get_or gs g 0)) (tail + 1) j g h e reach
       (λ a b.

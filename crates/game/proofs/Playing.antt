@@ -126,9 +126,9 @@ module _ (can : Can) (done : ℕ → Bool) (goal : ℕ → ℕ → Bool) (n : �
     module _ (first at : ℕ) (last₀ waits₀ last waits : List ℕ)
         (k : Sought can done goal n now first at last₀ waits₀ last waits) (low : first ≤ at) where
       -- one that has as many targets as before is passed over
-      pub sought-skip : get_or last at 0 ≡ length (aims can done (goal at) now)
+      pub sought_skip : get_or last at 0 ≡ length (aims can done (goal at) now)
           → Sought can done goal n now first (at + 1) last₀ waits₀ last waits
-      sought-skip e =
+      sought_skip e =
           record {
             reached = λ i a b o.
                 ⊎_elim
@@ -154,32 +154,32 @@ module _ (can : Can) (done : ℕ → Bool) (goal : ℕ → ℕ → Bool) (n : �
               | no l ↦ let m = mul-le-mul_right {m = suc at} {n = i} n (omega (arith, d)) in inr (omega arith)
             ]
 
-        other-stays : (i : ℕ) → (i ≡ at → ⊥) → Stays n i last waits last' waits'
-        other-stays i d =
+        other_stays : (i : ℕ) → (i ≡ at → ⊥) → Stays n i last waits last' waits'
+        other_stays i d =
             record {
               column = λ x h. others (i * n + x) (apart i x d h);
               targets = ap (λ (ys : List ℕ). get_or ys i 0) el ∙ get_or-set_other last at i tail 0 d;
             }
 
-        own-reached : Reached can done goal n now at last' waits'
-        own-reached =
+        own_reached : Reached can done goal n now at last' waits'
+        own_reached =
             record {
               column = column;
               targets = ap (λ (ys : List ℕ). get_or ys at 0) el ∙ (get_or-set_same last at tail 0 room ∙ count);
             }
 
-        pub sought-reach : Sought can done goal n now first (at + 1) last₀ waits₀ last' waits'
-        sought-reach =
+        pub sought_reach : Sought can done goal n now first (at + 1) last₀ waits₀ last' waits'
+        sought_reach =
             record {
               reached = λ i a b o.
                   ⊎_elim
-                  (λ q. subst (λ (j : ℕ). Reached can done goal n now j last' waits') (sym q) own-reached)
-                  (λ d. stays_reached (other-stays i d) now (k.reached i a (omega (arith, d)) o))
+                  (λ q. subst (λ (j : ℕ). Reached can done goal n now j last' waits') (sym q) own_reached)
+                  (λ d. stays_reached (other_stays i d) now (k.reached i a (omega (arith, d)) o))
                   (same_number i at);
               stays = λ i o.
                   ⊎_elim
-                  (λ l. stays_more (k.stays i (inl l)) (other-stays i (λ q. omega arith)))
-                  (λ l. stays_more (k.stays i (inr (omega arith))) (other-stays i (λ q. omega arith)))
+                  (λ l. stays_more (k.stays i (inl l)) (other_stays i (λ q. omega arith)))
+                  (λ l. stays_more (k.stays i (inr (omega arith))) (other_stays i (λ q. omega arith)))
                   o;
             }
 

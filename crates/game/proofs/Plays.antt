@@ -161,16 +161,16 @@ module _ (graph : List ℕ) (nodes groups positions goals : ℕ) where
         (columns : (i x : ℕ) → i < width → x < nodes → get_or waits (i * nodes + x) 0 ≡ steps_to can done (aim i) set x)
       where
         -- the nodes with a wait for each are those from which each is forced
-        pub cut-is : filter (waits_all waits nodes width) set ≡ attracted_all width can done aim set
-        cut-is = cut_round can done aim nodes width set sifted ready.fits.few_nodes waits columns
+        pub cut_is : filter (waits_all waits nodes width) set ≡ attracted_all width can done aim set
+        cut_is = cut_round can done aim nodes width set sifted ready.fits.few_nodes waits columns
 
         -- and such a node goes on within the set
-        pub waits-on : (member live dead : List ℕ) → MarkedIn set member live dead
+        pub waits_on : (member live dead : List ℕ) → MarkedIn set member live dead
             → GoesOn (waits_all waits nodes width) (labels_in graph nodes) set live
         unfolding can_in
-        waits-on member live dead m x a w =
+        waits_on member live dead m x a w =
             let forced : is_in x (attracted_all width can done aim set) ≡ true =
-            rw (← cut-is) (filter_in (waits_all waits nodes width) set x a w) in
+            rw (← cut_is) (filter_in (waits_all waits nodes width) set x a w) in
             let low = sifted_below nodes set sifted x a in
             let gl = groups_length graph ready.fits in
             ⊎_elim
@@ -193,10 +193,10 @@ module _ (graph : List ℕ) (nodes groups positions goals : ℕ) where
       all_held = sym same ∙ forced_held can done goal nodes goals rises set sifted forced
 
       -- and the waits are theirs
-      pub all-played : (old : List ℕ) (kept : ℕ) → length set ≡ kept → goals * nodes ≤ length old
+      pub all_played : (old : List ℕ) (kept : ℕ) → length set ≡ kept → goals * nodes ≤ length old
           → Rest (goals * nodes) old waits → Played graph nodes groups positions goals start old kept waits
       unfolding waits_in
-      all-played old kept size room rest =
+      all_played old kept size room rest =
           record {
             number = sym (ap length all_held ∙ size);
             waits =
@@ -210,29 +210,29 @@ module _ (graph : List ℕ) (nodes groups positions goals : ℕ) where
     -- a round reaches all goals
     module _ (start set last waits last' waits' : List ℕ) (r : RoundIn start set last waits)
         (k : SoughtIn graph nodes groups positions set 0 goals last waits last' waits') where
-      round-reached : (i : ℕ) → i < goals → Reached can done goal nodes set i last' waits'
-      round-reached i h = k.reached i (omega arith) h (r.older i h)
+      round_reached : (i : ℕ) → i < goals → Reached can done goal nodes set i last' waits'
+      round_reached i h = k.reached i (omega arith) h (r.older i h)
 
-      round-cut : filter (waits_all waits' nodes goals) set ≡ attracted_all goals can done goal set
-      round-cut =
-          cut-is set r.sifted goal goals ready.some_goal waits' (λ i x hi hx. (round-reached i hi).column x hx)
+      round_cut : filter (waits_all waits' nodes goals) set ≡ attracted_all goals can done goal set
+      round_cut =
+          cut_is set r.sifted goal goals ready.some_goal waits' (λ i x hi hx. (round_reached i hi).column x hx)
 
       -- the nodes with a wait for each are left
       module _ (left : List ℕ) (cut : left ≡ filter (waits_all waits' nodes goals) set) where
         reduced : Reduced can done goal nodes goals 0 goals set left
         reduced =
             subst (Reduced can done goal nodes goals 0 goals set)
-            (sym (cut ∙ round-cut)) (round_reduced can done goal nodes goals rises set r.sifted)
+            (sym (cut ∙ round_cut)) (round_reduced can done goal nodes goals rises set r.sifted)
 
         -- the next round is about them
-        pub next-round : RoundIn start left last' waits'
-        next-round = round_next can done goal nodes goals start set left last waits last' waits' 0 goals r k reduced
+        pub next_round_lem : RoundIn start left last' waits'
+        next_round_lem = round_next can done goal nodes goals start set left last waits last' waits' 0 goals r k reduced
 
         -- or they are as many as before, and these are left in the end
-        pub last-played : length set ≤ length left → (old : List ℕ) (kept : ℕ) → length set ≡ kept
+        pub last_played : length set ≤ length left → (old : List ℕ) (kept : ℕ) → length set ≡ kept
             → goals * nodes ≤ length old → Rest (goals * nodes) old waits'
             → Played graph nodes groups positions goals start old kept waits'
-        last-played still =
-            all-played start set last' waits' r.sifted r.same round-reached
+        last_played still =
+            all_played start set last' waits' r.sifted r.same round_reached
             (λ i h.
             reduced_still can done goal nodes goals rises set r.sifted 0 goals left reduced still i (omega arith) h)

@@ -21,7 +21,7 @@ use Rattle.game.specs.Packed.{groups_in, rev_in, starts_in, labels_in, goal_of, 
 use Rattle.game.proofs.Aiming.{aimed}
 use Rattle.game.specs.Playing.{Ready, SoughtIn, Standing, Rest, last_eight}
 use Rattle.game.proofs.Parts.{starts_nodes}
-use Rattle.game.proofs.Playing.{sought_none, sought-skip, sought-reach}
+use Rattle.game.proofs.Playing.{sought_none, sought_skip, sought_reach}
 use Rattle.game.proofs.Standing.{can_more, can_nothing, aimed_aims}
 use Rattle.game.proofs.Reaching.{reach_steps}
 
@@ -158,7 +158,7 @@ module _ {graph : List ℕ} {n groups positions goals : ℕ} {now : List ℕ} (m
     seek_skip same =
         record {
           sought =
-              sought-skip (can_in graph n groups positions) (over_at (labels_in graph n)) (goal_of (labels_in graph n)) n
+              sought_skip (can_in graph n groups positions) (over_at (labels_in graph n)) (goal_of (labels_in graph n)) n
               ready.fits.few_nodes now s
               (can_more (groups_in graph groups) (starts_in graph n) (rev_in graph positions))
               (can_nothing (groups_in graph groups) (starts_in graph n) (rev_in graph positions))
@@ -220,7 +220,7 @@ module _ {graph : List ℕ} {n groups positions goals : ℕ} {now : List ℕ} (m
         let out = put_out (at * n) n (at * n + n - at * n) waits new waits' turn.room long span ew in
         record {
           sought =
-              sought-reach (can_in graph n groups positions) done goal n ready.fits.few_nodes now s
+              sought_reach (can_in graph n groups positions) done goal n ready.fits.few_nodes now s
               (can_more gs starts rev) (can_nothing gs starts rev) first at (last_eight scratch₀) waits₀
               (last_eight scratch) waits k.sought k.begun (last_eight scratch') waits' tail
               (omega (arith, ap length last_was, length-drop place scratch, k.long))

@@ -18,7 +18,7 @@ use Rattle.game.specs.Steps.{Index}
 use Rattle.game.specs.Marks.{Marks, ends_at, Marked, without}
 use Rattle.game.proofs.Counts.{lt_or_le, or_false, and_off, and_on, is_in_append}
 use Rattle.game.proofs.Nodes.{node_iff, in_range}
-use Rattle.game.proofs.Deaths.{other_tests, other_set, unmark, dead-before, some_left, died-last, died-more}
+use Rattle.game.proofs.Deaths.{other_tests, other_set, unmark, dead_before, some_left, died_last, died_more}
 
 -- a node stays unless it is struck out
 pub in_without : (y : ℕ) (gone xs : List ℕ) → is_in y (without gone xs) ≡ (is_in y xs && not (is_in y gone))
@@ -134,8 +134,8 @@ module _ {gs starts rev : List ℕ} (index : Index rev starts gs) (x : ℕ) (xn 
 
     module _ (h : j < get_or starts (x + 1) 0) where
       -- the position under way, its group, and the group's node
-      pub strike-place : j < length rev
-      strike-place = in_range rev starts gs index x j xn h
+      pub strike_place : j < length rev
+      strike_place = in_range rev starts gs index x j xn h
 
       abbrev g : ℕ
       g = get_or rev j 0
@@ -143,23 +143,23 @@ module _ {gs starts rev : List ℕ} (index : Index rev starts gs) (x : ℕ) (xn 
       abbrev f : ℕ
       f = get_or gs g 0
 
-      pub strike-group : g < length gs
-      strike-group = index.groups j strike-place
+      pub strike_group : g < length gs
+      strike_group = index.groups j strike_place
 
-      pub strike-node : f < nodes starts
-      strike-node = index.of_node g strike-group
+      pub strike_node : f < nodes starts
+      strike_node = index.of_node g strike_group
 
       -- it fails from now on, and the others are as they were
-      now-no : (xs : List ℕ) → struck starts x xs (j + 1) j ≡ false
-      now-no xs = struck_now starts x xs j c.from
+      now_no : (xs : List ℕ) → struck starts x xs (j + 1) j ≡ false
+      now_no xs = struck_now starts x xs j c.from
 
-      others-on : (xs : List ℕ) (i : ℕ) → (i ≡ j → ⊥) → struck starts x xs j i ≡ struck starts x xs (j + 1) i
-      others-on xs i d = struck_else starts x xs j i d
+      others_on : (xs : List ℕ) (i : ℕ) → (i ≡ j → ⊥) → struck starts x xs j i ≡ struck starts x xs (j + 1) i
+      others_on xs i d = struck_else starts x xs j i d
 
       -- its group is dead already
-      pub strike-dead : (get_or dead g 0 ≡ 0 → ⊥)
+      pub strike_dead : (get_or dead g 0 ≡ 0 → ⊥)
           → Striking gs starts rev x member₀ live₀ dead₀ member live dead (j + 1)
-      strike-dead d =
+      strike_dead d =
           record {
             from = omega (arith, c.from);
             to = omega arith;
@@ -167,24 +167,24 @@ module _ {gs starts rev : List ℕ} (index : Index rev starts gs) (x : ℕ) (xn 
             live_size = c.live_size;
             dead_size = c.dead_size;
             marks = λ xs m.
-                dead-before gs starts rev (struck starts x xs j) (apart x xs) member live dead (c.marks xs m)
-                (struck starts x xs (j + 1)) j g strike-place refl (now-no xs) (others-on xs) d;
+                dead_before gs starts rev (struck starts x xs j) (apart x xs) member live dead (c.marks xs m)
+                (struck starts x xs (j + 1)) j g strike_place refl (now_no xs) (others_on xs) d;
           }
 
       module _ (d : get_or dead g 0 ≡ 0) where
         -- its group dies, so its group's node has one
-        pub strike-some : (xs : List ℕ) → Marks gs starts rev (ends_at starts xs) (apart x xs) member₀ live₀ dead₀
+        pub strike_some : (xs : List ℕ) → Marks gs starts rev (ends_at starts xs) (apart x xs) member₀ live₀ dead₀
             → 0 < get_or live f 0
-        strike-some xs m =
+        strike_some xs m =
             some_left gs starts rev (struck starts x xs j) (apart x xs) member live dead (c.marks xs m)
-            (struck starts x xs (j + 1)) j g strike-place refl (now-no xs) (others-on xs) strike-group f refl
-            strike-node d
+            (struck starts x xs (j + 1)) j g strike_place refl (now_no xs) (others_on xs) strike_group f refl
+            strike_node d
 
         -- the last of its node
-        pub strike-last : get_or live f 0 - 1 ≡ 0
+        pub strike_last : get_or live f 0 - 1 ≡ 0
             → Striking gs starts rev x member₀ live₀ dead₀ (set member f 65535)
             (set live f (get_or live f 0 - 1)) (set dead g 1) (j + 1)
-        strike-last z =
+        strike_last z =
             record {
               from = omega (arith, c.from);
               to = omega arith;
@@ -192,16 +192,16 @@ module _ {gs starts rev : List ℕ} (index : Index rev starts gs) (x : ℕ) (xn 
               live_size = length-set live f (get_or live f 0 - 1) ∙ c.live_size;
               dead_size = length-set dead g 1 ∙ c.dead_size;
               marks = λ xs m.
-                  died-last gs starts rev (struck starts x xs j) (apart x xs) member live dead (c.marks xs m)
-                  (struck starts x xs (j + 1)) j g strike-place refl (now-no xs) (others-on xs) strike-group f refl
-                  strike-node d z;
+                  died_last gs starts rev (struck starts x xs j) (apart x xs) member live dead (c.marks xs m)
+                  (struck starts x xs (j + 1)) j g strike_place refl (now_no xs) (others_on xs) strike_group f refl
+                  strike_node d z;
             }
 
         -- one of several
-        pub strike-more : (get_or live f 0 - 1 ≡ 0 → ⊥)
+        pub strike_more : (get_or live f 0 - 1 ≡ 0 → ⊥)
             → Striking gs starts rev x member₀ live₀ dead₀ member
             (set live f (get_or live f 0 - 1)) (set dead g 1) (j + 1)
-        strike-more z =
+        strike_more z =
             record {
               from = omega (arith, c.from);
               to = omega arith;
@@ -209,9 +209,9 @@ module _ {gs starts rev : List ℕ} (index : Index rev starts gs) (x : ℕ) (xn 
               live_size = length-set live f (get_or live f 0 - 1) ∙ c.live_size;
               dead_size = length-set dead g 1 ∙ c.dead_size;
               marks = λ xs m.
-                  died-more gs starts rev (struck starts x xs j) (apart x xs) member live dead (c.marks xs m)
-                  (struck starts x xs (j + 1)) j g strike-place refl (now-no xs) (others-on xs) strike-group f refl
-                  strike-node d z;
+                  died_more gs starts rev (struck starts x xs j) (apart x xs) member live dead (c.marks xs m)
+                  (struck starts x xs (j + 1)) j g strike_place refl (now_no xs) (others_on xs) strike_group f refl
+                  strike_node d z;
             }
 
 -- the first k nodes of a list are struck out, of whichever set the marks were

@@ -10,7 +10,7 @@ use Rattle.game.specs.Walked.{nodes}
 use Rattle.game.specs.Steps.{Index, Rooms, Walking, Misses}
 use Rattle.game.proofs.Queue.{queue_most}
 use Rattle.game.proofs.Nodes.{in_range}
-use Rattle.game.proofs.Pass.{Pass, counted_down, pass-room, pass_hit, pass-miss, pass_end}
+use Rattle.game.proofs.Pass.{Pass, counted_down, pass_room, pass_hit, pass_miss, pass_end}
 
 -- the node at the queue's head
 pub record Ready (rev starts gs member w q : List ℕ) (head : ℕ) : Type 0 where
@@ -86,29 +86,29 @@ module _ (rev starts gs member w₀ q₀ : List ℕ) (head : ℕ) (e : Ready rev
         (m : Misses (get_or cnt (get_or rev j 0) 0 - 1) (get_or w (get_or gs (get_or rev j 0) 0) 0)
         (get_or member (get_or gs (get_or rev j 0) 0) 0) r) where
       -- a node to be reached has room in the queue
-      pub turn-room : r ≡ 0 → tail < length q
-      turn-room z =
+      pub turn_room : r ≡ 0 → tail < length q
+      turn_room z =
           omega (
             arith,
             c.rooms.q_long,
-            pass-room rev starts gs member w₀ q₀ head (get_or q₀ head 0) (get_or w₀ (get_or q₀ head 0) 0) e.index e.node
+            pass_room rev starts gs member w₀ q₀ head (get_or q₀ head 0) (get_or w₀ (get_or q₀ head 0) 0) e.index e.node
                 refl e.in_queue e.alone cnt w q tail j (get_or rev j 0) h refl c _ refl (m.met z),
           )
 
-      pub turn-hit : r ≡ 0
+      pub turn_hit : r ≡ 0
           → Pass rev starts gs member w₀ q₀ head (get_or q₀ head 0) (get_or w₀ (get_or q₀ head 0) 0)
           (set cnt (get_or rev j 0) (get_or cnt (get_or rev j 0) 0 - 1))
           (set w (get_or gs (get_or rev j 0) 0) (get_or w₀ (get_or q₀ head 0) 0 + 1))
           (set q tail (get_or gs (get_or rev j 0) 0)) (tail + 1) (j + 1)
-      turn-hit z =
+      turn_hit z =
           pass_hit rev starts gs member w₀ q₀ head (get_or q₀ head 0) (get_or w₀ (get_or q₀ head 0) 0) e.index e.node
           refl e.in_queue e.alone cnt w q tail j (get_or rev j 0) h refl c _ refl (m.met z)
 
-      pub turn-miss : (r ≡ 0 → ⊥)
+      pub turn_miss : (r ≡ 0 → ⊥)
           → Pass rev starts gs member w₀ q₀ head (get_or q₀ head 0) (get_or w₀ (get_or q₀ head 0) 0)
           (set cnt (get_or rev j 0) (get_or cnt (get_or rev j 0) 0 - 1)) w q tail (j + 1)
-      turn-miss z =
-          pass-miss rev starts gs member w₀ q₀ head (get_or q₀ head 0) (get_or w₀ (get_or q₀ head 0) 0) e.index e.node
+      turn_miss z =
+          pass_miss rev starts gs member w₀ q₀ head (get_or q₀ head 0) (get_or w₀ (get_or q₀ head 0) 0) e.index e.node
           refl e.in_queue e.alone cnt w q tail j (get_or rev j 0) h refl c _ refl (λ y. z (m.back y))
 
 pub pass_to : (rev starts gs member w₀ q₀ : List ℕ) (head t v : ℕ) (cnt : List ℕ) {w q w' q' : List ℕ}

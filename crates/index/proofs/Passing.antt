@@ -127,15 +127,15 @@ module _ (s index : List ℕ) where
       turn = ap (climbs (plant_of s) least) next_number
 
       -- the next number passes, or fails
-      left-pass : (next ≡ 0 → ⊥) → Left k least ≡ Left (k + 1) next
-      left-pass good =
+      left_pass : (next ≡ 0 → ⊥) → Left k least ≡ Left (k + 1) next
+      left_pass good =
           let yes = told_yes s least Next told good in
           turn
           ∙ ap (λ (b : Bool). b && Left (k + 1) (suc (key_of (plant_of s) Next))) yes.0
           ∙ sym (ap (Left (k + 1)) yes.1)
 
-      left-fail : next ≡ 0 → Left k least ≡ false
-      left-fail bad =
+      left_fail : next ≡ 0 → Left k least ≡ false
+      left_fail bad =
           turn
           ∙ ap (λ (b : Bool). b && Left (k + 1) (suc (key_of (plant_of s) Next))) (told_no s least Next told bad)
 
@@ -227,11 +227,11 @@ module _ {s index : List ℕ} {count ends k least n next : ℕ} (passed : Passed
         plant_long = passed.plant_long;
         index_long_lem = passed.index_long_lem;
         opened = passed.opened;
-        rest = passed.rest ∙ left-pass s index k left least next_is good;
+        rest = passed.rest ∙ left_pass s index k left least next_is good;
       }
 
   pub pass_fail : next ≡ 0 → All s index ≡ false
-  pass_fail bad = passed.rest ∙ left-fail s index k left least next_is bad
+  pass_fail bad = passed.rest ∙ left_fail s index k left least next_is bad
 
   -- it is the number of an arrow
   pub number_low : (next ≡ 0 → ⊥) → n < count

@@ -206,13 +206,13 @@ module _ (p q : Plant) (mask : ℕ) (C : ℕ → Type 0) (a : Alike p q mask C) 
     unfolding kept_within
     kept_is x c =
         ap (λ t. is_in x (pick t (stages_to p.states p mask v) (held_within p mask nowhere v))) a.settles_are ∙
-        by-sort q.settles
+        by_sort q.settles
       where
-        by-sort : (t : Bool) →
+        by_sort : (t : Bool) →
             is_in x (pick t (stages_to p.states p mask v) (held_within p mask nowhere v)) ≡
             is_in x (pick t (stages_to q.states q mask w) (held_within q mask nowhere w))
-        by-sort true = stages_is p.states x c ∙ ap (λ n. is_in x (stages_to n q mask w)) a.states_are
-        by-sort false = held_is nowhere nowhere (λ y k. refl) v w within x c
+        by_sort true = stages_is p.states x c ∙ ap (λ n. is_in x (stages_to n q mask w)) a.states_are
+        by_sort false = held_is nowhere nowhere (λ y k. refl) v w within x c
 
   -- stages counted, from kept sets with the same members
   module _ (kept other : List ℕ) (both : Same C kept other) where

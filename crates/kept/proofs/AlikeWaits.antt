@@ -10,7 +10,7 @@ use Rattle.statements.specs.Sets.{pick, is_in}
 use Rattle.statements.specs.Plants.{Plant}
 use Rattle.statements.specs.Kept.{nowhere, stages_to, kept_within, stages_before, Stage, stage_after, stage_for, wait_in}
 use Rattle.statements.specs.Kept.{wait_of, nearer, landing, listed_move}
-use Rattle.kept.proofs.Waits.{Sound, wait-level, level-wait}
+use Rattle.kept.proofs.Waits.{Sound, wait_level, level_wait}
 use Rattle.kept.proofs.Kept.{for_sound, for_through}
 use Rattle.kept.proofs.Alike.{Alike, Agrees, Same, same_filter, move_is, can_is, level_is, stages_is, kept_is}
 use Rattle.kept.proofs.Alike.{before_is}
@@ -30,12 +30,12 @@ module _ (p q : Plant) (mask : ℕ) (C : ℕ → Type 0) (a : Alike p q mask C) 
       subst (λ (s : Stage). SameStage s (stage_for q mask other x))
       (sym (ap₂ (λ t k. pick t (stage_after k p mask kept) (record { earlier = []; exits = nowhere; through = kept }))
       a.settles_are (before_is p q mask C a kept other both x c)))
-      (by-sort q.settles (stages_before q mask other x))
+      (by_sort q.settles (stages_before q mask other x))
     where
-      by-sort : (t : Bool) (k : ℕ) →
+      by_sort : (t : Bool) (k : ℕ) →
           SameStage (pick t (stage_after k p mask kept) (record { earlier = []; exits = nowhere; through = kept }))
           (pick t (stage_after k q mask other) (record { earlier = []; exits = nowhere; through = other }))
-      by-sort true k =
+      by_sort true k =
           let v : ℕ → Bool = λ y. is_in y kept in
           let w : ℕ → Bool = λ y. is_in y other in
           let below = stages_is p q mask C a v w both k in
@@ -44,7 +44,7 @@ module _ (p q : Plant) (mask : ℕ) (C : ℕ → Type 0) (a : Alike p q mask C) 
             out = can_is p q mask C a (stages_to k p mask v) (stages_to k q mask w) below;
             through_is = stages_is p q mask C a v w both (suc k);
           }
-      by-sort false k = record { low = λ y l. refl; out = λ y l. refl; through_is = both }
+      by_sort false k = record { low = λ y l. refl; out = λ y l. refl; through_is = both }
 
   -- waits and landings, worked out from two sound stages that are the same there
   module _ (some_goal : 0 < p.goals) (s t : Stage) (same : SameStage s t) (sound : Sound p mask s)
@@ -58,22 +58,22 @@ module _ (p q : Plant) (mask : ℕ) (C : ℕ → Type 0) (a : Alike p q mask C) 
         let v = wait_in q mask t.exits t.through i x in
         let levels =
         level_is p q mask C a s.through t.through same.through_is s.exits t.exits same.out i in
-        let up = level-wait q mask t (omega arith) other-sound i (omega arith) x m w
-        (sym (levels w x c) ∙ wait-level p mask s some_goal sound i i-goal x k w (omega arith)) in
-        let down = level-wait p mask s some_goal sound i i-goal x k v
-        (levels v x c ∙ wait-level q mask t (omega arith) other-sound i (omega arith) x m v (omega arith)) in
+        let up = level_wait q mask t (omega arith) other-sound i (omega arith) x m w
+        (sym (levels w x c) ∙ wait_level p mask s some_goal sound i i-goal x k w (omega arith)) in
+        let down = level_wait p mask s some_goal sound i i-goal x k v
+        (levels v x c ∙ wait_level q mask t (omega arith) other-sound i (omega arith) x m v (omega arith)) in
         omega arith
 
     landing_is : (x : ℕ) → C x → is_in x s.through ≡ true → Same C (landing p mask s i x) (landing q mask t i x)
     unfolding landing nearer
     landing_is x c k =
-        rw (same.out x c, wait_in_lem x c k) (by-exit (t.exits x) (wait_in q mask t.exits t.through i x))
+        rw (same.out x c, wait_in_lem x c k) (by_exit (t.exits x) (wait_in q mask t.exits t.through i x))
       where
-        by-exit : (b : Bool) (w : ℕ) →
+        by_exit : (b : Bool) (w : ℕ) →
             Same C (pick b s.earlier (nearer p mask s.exits s.through i w))
             (pick b t.earlier (nearer q mask t.exits t.through i w))
-        by-exit true w = same.low
-        by-exit false w =
+        by_exit true w = same.low
+        by_exit false w =
             same_filter C (λ y. eqb w 0 || ltb (wait_in p mask s.exits s.through i y) w)
             (λ y. eqb w 0 || ltb (wait_in q mask t.exits t.through i y) w) s.through t.through
             (λ y l m. ap (λ v. eqb w 0 || ltb v w) (wait_in_lem y l m)) same.through_is

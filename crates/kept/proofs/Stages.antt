@@ -243,9 +243,9 @@ module _ (p : Plant) (mask : ℕ) (kept : List ℕ) where
 
     pub before_not : is_in x (stages_to (stages_before p mask kept x) p mask Kept) ≡ false
     before_not =
-        ⊎_elim (λ e. absurd (too-low (stages_before p mask kept x) refl e)) (λ e. e)
+        ⊎_elim (λ e. absurd (too_low (stages_before p mask kept x) refl e)) (λ e. e)
         (decided (is_in x (stages_to (stages_before p mask kept x) p mask Kept)))
       where
-        too-low : (k : ℕ) → stages_before p mask kept x ≡ k → is_in x (stages_to k p mask Kept) ≡ true → ⊥
-        too-low zero e m = stages_none p mask Kept x m
-        too-low (suc k) e m = let b = before_below in let l = before_least k x (omega arith) m in omega arith
+        too_low : (k : ℕ) → stages_before p mask kept x ≡ k → is_in x (stages_to k p mask Kept) ≡ true → ⊥
+        too_low zero e m = stages_none p mask Kept x m
+        too_low (suc k) e m = let b = before_below in let l = before_least k x (omega arith) m in omega arith

@@ -142,39 +142,39 @@ module _ (p : Plant) (mask : ℕ) (s : Stage) (some_goal : 0 < p.goals) (sound :
 
     module _ (x : ℕ) (is-kept : is_in x kept ≡ true) where
       -- a wait is below the number of kept states
-      pub wait-short : wait_in p mask done kept i x < length kept
+      pub wait_short : wait_in p mask done kept i x < length kept
       unfolding wait_in
-      wait-short =
+      wait_short =
           let l = has_length x kept is-kept in
           let k = first_least (length kept) 0 (λ n. is_in x (level p mask done kept i n)) (length kept - 1) (omega arith)
           (omega arith) (level_last x is-kept) in
           omega arith
 
       -- it is at most n exactly in level n
-      pub wait-level : (n : ℕ) → wait_in p mask done kept i x ≤ n → is_in x (level p mask done kept i n) ≡ true
+      pub wait_level : (n : ℕ) → wait_in p mask done kept i x ≤ n → is_in x (level p mask done kept i n) ≡ true
       unfolding wait_in
-      wait-level n l =
+      wait_level n l =
           level_later (wait_in p mask done kept i x) n l x
-          (first_holds (length kept) 0 (λ k. is_in x (level p mask done kept i k)) (let s = wait-short in omega arith))
+          (first_holds (length kept) 0 (λ k. is_in x (level p mask done kept i k)) (let s = wait_short in omega arith))
 
-      pub level-wait : (n : ℕ) → is_in x (level p mask done kept i n) ≡ true → wait_in p mask done kept i x ≤ n
+      pub level_wait : (n : ℕ) → is_in x (level p mask done kept i n) ≡ true → wait_in p mask done kept i x ≤ n
       unfolding wait_in
-      level-wait n h =
+      level_wait n h =
           ⊎_elim
           (λ e. let l = ltb-true n (length kept) e in
           first_least (length kept) 0 (λ k. is_in x (level p mask done kept i k)) n (omega arith) (omega arith) h)
-          (λ e. let s = wait-short in omega (arith, leb-false (suc n) (length kept) e))
+          (λ e. let s = wait_short in omega (arith, leb-false (suc n) (length kept) e))
           (decided (ltb n (length kept)))
 
       -- it is 0 in the goal and where the state can leave, and nowhere else
-      pub wait-goal : wait_in p mask done kept i x ≡ 0 → (done x ≡ true) ⊎ (in_goal p i x ≡ true)
-      wait-goal e = level_goal x (wait-level 0 (omega arith))
+      pub wait_goal : wait_in p mask done kept i x ≡ 0 → (done x ≡ true) ⊎ (in_goal p i x ≡ true)
+      wait_goal e = level_goal x (wait_level 0 (omega arith))
 
-      pub goal-wait : in_goal p i x ≡ true → wait_in p mask done kept i x ≡ 0
-      goal-wait e = let l = level-wait 0 (goal_level x is-kept e) in omega arith
+      pub goal_wait : in_goal p i x ≡ true → wait_in p mask done kept i x ≡ 0
+      goal_wait e = let l = level_wait 0 (goal_level x is-kept e) in omega arith
 
-      pub wait-exit : done x ≡ true → wait_in p mask done kept i x ≡ 0
-      wait-exit e = let l = level-wait 0 (exit_level x is-kept e) in omega arith
+      pub wait_exit : done x ≡ true → wait_in p mask done kept i x ≡ 0
+      wait_exit e = let l = level_wait 0 (exit_level x is-kept e) in omega arith
 
     -- where the listed move may end
     pub nearer_holds : (w y : ℕ) → is_in y (nearer p mask done kept i w) ≡ true →
@@ -210,9 +210,9 @@ module _ (p : Plant) (mask : ℕ) (s : Stage) (some_goal : 0 < p.goals) (sound :
         go (suc n) e =
             can_more p mask mask (level p mask done kept i n) (nearer p mask done kept i (suc n)) x (λ u b. b)
             (λ y m. let k = level_kept n y m in
-            nearer_in_lem (suc n) y k (λ l. let w = level-wait y k n m in omega arith))
-            (⊎_elim (λ m. absurd (omega (arith, level-wait x is-kept n m))) (λ c. c)
-            (level_step n x (wait-level x is-kept (suc n) (omega arith))))
+            nearer_in_lem (suc n) y k (λ l. let w = level_wait y k n m in omega arith))
+            (⊎_elim (λ m. absurd (omega (arith, level_wait x is-kept n m))) (λ c. c)
+            (level_step n x (wait_level x is-kept (suc n) (omega arith))))
 
     -- where the listed move of a state may end, and that there is a move into it
     pub landing_exit : (x : ℕ) → done x ≡ true → landing p mask s i x ≡ s.earlier
@@ -239,7 +239,7 @@ module _ (p : Plant) (mask : ℕ) (s : Stage) (some_goal : 0 < p.goals) (sound :
     pub landing_less : (x y : ℕ) → is_in x kept ≡ true → is_in y (landing p mask s i x) ≡ true →
         0 < wait_in p mask done kept i x → wait_in p mask done kept i y < wait_in p mask done kept i x
     landing_less x y k h l =
-        ⊎_elim (λ e. absurd (let w = wait-exit x k e in omega arith))
+        ⊎_elim (λ e. absurd (let w = wait_exit x k e in omega arith))
         (λ e. (nearer_holds (wait_in p mask done kept i x) y (rw (landing_nearer x e) at h)).1 l) (decided (done x))
 
     -- the lowest move goes there

@@ -213,10 +213,10 @@ module _ {s : List ℕ} {mask k least g n : ℕ} {first states moves begins ends
     -- the turn
     module _ (room : Spare g n states moves begins ends owners) {on new : ℕ} (eo : on ≡ pick (bit b.action mask) 1 0)
         (en : new ≡ pick (leb least (key b.from b.action)) on 0) where
-      pub pass-turn : Passed s mask (k + 1) next (g + new) (n + on) (set first b.from (get_or first b.from 0 + new))
+      pub pass_turn : Passed s mask (k + 1) next (g + new) (n + on) (set first b.from (get_or first b.from 0 + new))
           (set states g b.from) (set moves g b.action) (set begins g n) (set ends n b.to)
           (set owners n (g - (on - new)))
-      pass-turn =
+      pass_turn =
           record {
             arrows = t.arrows ++ (as_arrow b ∷ []);
             many = length-append t.arrows (as_arrow b ∷ []) ∙ ap (λ (i : ℕ). i + 1) t.many;
@@ -237,11 +237,11 @@ module _ {s : List ℕ} {mask k least g n : ℕ} {first states moves begins ends
           }
 
       -- the sums fit
-      pub pass-small : (new ≤ on) × (on ≤ 1) × (on - new ≤ g)
-      pass-small = turn_small comes t.laid begun on new eo en
+      pub pass_small : (new ≤ on) × (on ≤ 1) × (on - new ≤ g)
+      pass_small = turn_small comes t.laid begun on new eo en
 
-      pub pass-count : (b.from < (plant_of s).states) × (get_or first b.from 0 ≤ g)
-      pass-count = (good.from_below, turn_count comes t.laid room.moves_long)
+      pub pass_count : (b.from < (plant_of s).states) × (get_or first b.from 0 ≤ g)
+      pass_count = (good.from_below, turn_count comes t.laid room.moves_long)
 
 -- past the last arrow all are laid out
 module _ {s : List ℕ} {mask k least g n : ℕ} {first states moves begins ends owners : List ℕ}

@@ -21,7 +21,7 @@ use Rattle.format.specs.Checks.{least_after}
 use Rattle.format.proofs.Header.{plant_head}
 use Rattle.layout.specs.Layout.{group_ends}
 use Rattle.layout.proofs.Turns.{Spare}
-use Rattle.layout.proofs.Passed.{key, Passed, Taken, pass_start, pass-turn, pass_refused, pass_end}
+use Rattle.layout.proofs.Passed.{key, Passed, Taken, pass_start, pass_turn, pass_refused, pass_end}
 
 -- the first k arrows are passed in lists as long as all arrows, and where all are in service each end stands at its
 -- place
@@ -135,7 +135,7 @@ module _ (s : List ℕ) (mask k : ℕ) (fine : plant_fault s ≡ 0) (more : k < 
         begins = set w.begins w.groups w.arrows;
         ends = set w.ends w.arrows arrow.to;
         owners = set w.owners w.arrows (w.groups - (on - new));
-        passed = pass-turn w.passed taken some spare refl refl;
+        passed = pass_turn w.passed taken some spare refl refl;
         states_long = length-set w.states w.groups arrow.from ∙ w.states_long;
         moves_long = length-set w.moves w.groups arrow.action ∙ w.moves_long;
         begins_long = length-set w.begins w.groups w.arrows ∙ w.begins_long;

@@ -13,7 +13,7 @@ use Rattle.format.specs.declared.arrows.Arrow.{Arrow as ReadArrow}
 use Rattle.format.proofs.Header.{PlantHead, plant_states}
 use Rattle.layout.specs.Passing.{part, first_part, begins_part, moves_part, ends_part, owners_part, Room}
 use Rattle.layout.proofs.Turns.{Spare}
-use Rattle.layout.proofs.Passed.{key, Passed, Taken, pass_start, pass-turn, pass-small, pass-count}
+use Rattle.layout.proofs.Passed.{key, Passed, Taken, pass_start, pass_turn, pass_small, pass_count}
 use Rattle.layout.proofs.Tables.{begins_size, moves_size, ends_size, owners_size, first_at, Stored}
 use Rattle.layout.proofs.Tables.{first_stored, begins_stored, moves_stored, ends_stored, owners_stored}
 
@@ -68,11 +68,11 @@ module _ {s : List ℕ} {mask k least g n h : ℕ} {table states : List ℕ} (ro
       (en : new ≡ pick (leb least (key b.from b.action)) on 0) where
     -- the numbers that it adds are small
     pub small_in : (new ≤ on) × (on ≤ 1) × (on - new ≤ g)
-    small_in = pass-small t r some spare eo en
+    small_in = pass_small t r some spare eo en
 
     state_low : b.from < 1025
     state_low =
-        omega (arith, pass-count t r some spare eo en, plant_states s, r.head.sizes.states_most)
+        omega (arith, pass_count t r some spare eo en, plant_states s, r.head.sizes.states_most)
 
     -- and so are the groups of its state
     pub count_in : (b.from < 1025) × (get_or table b.from 0 + new < 65536)
@@ -80,7 +80,7 @@ module _ {s : List ℕ} {mask k least g n h : ℕ} {table states : List ℕ} (ro
       state_low,
       omega (
         arith,
-        pass-count t r some spare eo en,
+        pass_count t r some spare eo en,
         first_at table b.from state_low,
         small_in,
         t.laid.groups_few,
@@ -100,8 +100,8 @@ module _ {s : List ℕ} {mask k least g n h : ℕ} {table states : List ℕ} (ro
           ≡ Stored h g n table b.from (get_or table b.from 0 + new) b.action b.to (g - (on - new))
       stored = rw (e₄, e₃, e₁)
 
-      pub again-in : PassedIn s mask (k + 1) next (g + new) (n + on) h table' states'
-      again-in =
+      pub again_in : PassedIn s mask (k + 1) next (g + new) (n + on) h table' states'
+      again_in =
           let sum = get_or table b.from 0 + new in
           let owner = g - (on - new) in
           rw (
@@ -113,7 +113,7 @@ module _ {s : List ℕ} {mask k least g n h : ℕ} {table states : List ℕ} (ro
             ends_stored h g n table b.from sum b.action b.to owner group_place end_place state_low,
             owners_stored h g n table b.from sum b.action b.to owner group_place end_place state_low,
             ← first_at table b.from state_low,
-          ) (pass-turn t r some spare eo en)
+          ) (pass_turn t r some spare eo en)
 
       pub same_in : (length table' ≡ length table) × (length states' ≡ length states)
       same_in = (ap length stored ∙ simp length-set, ap length e₂ ∙ simp length-set)

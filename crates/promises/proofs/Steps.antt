@@ -62,8 +62,8 @@ module _ (s : List ℕ) {b : List ℕ} {mask : ℕ} {within : ℕ → Type 0} (p
       won : Wins (plant_of s) mask within x
       won = (right.is_book.kept x state).0 kept
 
-      listed-meets : Meets (plant_of s) mask x (Wins (plant_of s) mask within) (move_at b x i)
-      listed-meets = right.safe x i (move_at b x i) state goal (right.listed x i state goal kept).0
+      listed_meets : Meets (plant_of s) mask x (Wins (plant_of s) mask within) (move_at b x i)
+      listed_meets = right.safe x i (move_at b x i) state goal (right.listed x i state goal kept).0
 
   step_accepted : (x i y : ℕ) → x < (plant_of s).states → i < (plant_of s).goals → y < (plant_of s).states →
       step_fault s b x i y ≡ 0
@@ -79,10 +79,10 @@ module _ (s : List ℕ) {b : List ℕ} {mask : ℕ} {within : ℕ → Type 0} (p
         some_goal = (plant_ok s plant).sizes.goals_least;
         consulted = λ x i hx hi. moves_accepted hx hi;
         stepped = step_accepted;
-        goes_on = λ x i hx hi k. rw right.is_book.mask_is (listed-meets hx hi k).is_available;
+        goes_on = λ x i hx hi k. rw right.is_book.mask_is (listed_meets hx hi k).is_available;
         stays = λ x i y hx hi k leads.
             let low = end_low s plant x (move_at b x i) y leads in
-            (low, (right.is_book.kept y low).1 ((listed-meets hx hi k).ends_well y leads));
+            (low, (right.is_book.kept y low).1 ((listed_meets hx hi k).ends_well y leads));
         short = λ x i hx hi k. right.short x i hx hi (won hx hi k);
         served = λ e x i hx hi k. right.served e x i hx hi (won hx hi k);
         nearer = λ e x i y hx hi k w leads.

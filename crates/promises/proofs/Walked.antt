@@ -108,8 +108,8 @@ module _ (s : List ℕ) {b : List ℕ} {mask : ℕ} {within : ℕ → Type 0} (p
     -- a step of the walk
     module _ {r : Advice} (says : ConsultSays b x i r) {u : ℕ} (taken : Taken s b x i r u) where
       -- the move taken is good
-      good-taken : bit u (good_moves (plant_of s) b x (arrive b x i)) ≡ true
-      good-taken =
+      good_taken : bit u (good_moves (plant_of s) b x (arrive b x i)) ≡ true
+      good_taken =
           elim taken [
             | inl e ↦ rw (e ∙ action_is says consult_accepted at.kept) listed.0
             | inr m ↦ rw (mask_is m.1 moves_accepted) at m.2
@@ -118,7 +118,7 @@ module _ (s : List ℕ) {b : List ℕ} {mask : ℕ} {within : ℕ → Type 0} (p
       -- and leads to a kept state; the goal sought there is the one arrived at
       next : (y : ℕ) → is_in y (ends (plant_of s) x u) ≡ true → At y r.seek
       next y leads =
-          let meets = right.safe x (arrive b x i) u at.state arrived good-taken in
+          let meets = right.safe x (arrive b x i) u at.state arrived good_taken in
           let state = end_low s plant x u y leads in
           record {
             state = state;
@@ -150,7 +150,7 @@ module _ (s : List ℕ) {b : List ℕ} {mask : ℕ} {within : ℕ → Type 0} (p
     picks : Picks (plant_of s) b states goals moves
     picks =
         record {
-          good = λ n. good-taken (always n) (walk.consulted n) (walk.taken n);
+          good = λ n. good_taken (always n) (walk.consulted n) (walk.taken n);
           leads = walk.leads;
           seeks = λ n. walk.seeks n ∙ seeks_at n;
         }

@@ -188,10 +188,10 @@ module _ (p : Plant) (mask : ℕ) (leave all : List ℕ) (set : Sifted (numbers 
         own_is =
             ap (λ (ys : List ℕ). pick (goes p leave x) (get_or leave x 0) (move_into p mask ys x)) below_all
 
-        later-is : (n : ℕ) → step_of p mask leave all i x ≡ suc n
+        later_is : (n : ℕ) → step_of p mask leave all i x ≡ suc n
             → move_into p mask (below (column_of p waits i) (suc n) p.states) x ≡ found_by p mask leave all i (suc n) x
         unfolding found_by before
-        later-is n e =
+        later_is n e =
             let low = step_few i x in
             ⊎_elim
             (λ g. absurd (omega (arith, exit_wait i x hi m g)))
@@ -206,7 +206,7 @@ module _ (p : Plant) (mask : ℕ) (leave all : List ℕ) (set : Sifted (numbers 
             → pick (eqb w 0) (own_move p mask leave waits x)
             (move_into p mask (below (column_of p waits i) w p.states) x) ≡ found_by p mask leave all i w x
         move_is zero e = own_is
-        move_is (suc n) e = rw (ne_eqb (suc n) 0 (λ q. omega arith)) (later-is n (sym e))
+        move_is (suc n) e = rw (ne_eqb (suc n) 0 (λ q. omega arith)) (later_is n (sym e))
 
         pub entry_is : let wait = get_or waits (i * p.states + x) 0 in
             wait ∷ (pick (eqb wait 0) (own_move p mask leave waits x)
@@ -224,10 +224,10 @@ module _ (p : Plant) (mask : ℕ) (leave all : List ℕ) (set : Sifted (numbers 
             ∙ sym (ap (λ (b : Bool). pick b (found_by p mask leave all i (step_of p mask leave all i x) x) lost_mark) forces)))
 
       -- and the entries of a state are those of the reach to each goal
-      pub entries-are : (x : ℕ) → is_in x all ≡ true → entries_of p mask (own_move p mask leave waits x) waits x
+      pub entries_are : (x : ℕ) → is_in x all ≡ true → entries_of p mask (own_move p mask leave waits x) waits x
           ≡ joined p.goals 0 (λ i. reached p mask leave all i x ∷ (reached_by p mask leave all i x ∷ []))
       unfolding entries_of
-      entries-are x m =
+      entries_are x m =
           joined_same
           (λ i. let wait = get_or waits (i * p.states + x) 0 in
           wait ∷ (pick (eqb wait 0) (own_move p mask leave waits x)

@@ -204,9 +204,9 @@ module _ (p : Plant) (mask : ℕ) where
       own part = let all = ahead_all part x u h k in (all.0, rw (part_yes part x u e) at all.1)
 
       -- its move
-      pub group-move : get_or (group_moves p mask) (length (ahead p mask the_move x u)) 0 ≡ u
+      pub group_move : get_or (group_moves p mask) (length (ahead p mask the_move x u)) 0 ≡ u
       unfolding group_moves
-      group-move =
+      group_move =
           let all = own the_move in
           ap (λ (l : List ℕ). get_or l (length (ahead p mask the_move x u)) 0) all.1
           ∙ get_or-append_seam (ahead p mask the_move x u) u all.0 0
@@ -219,19 +219,19 @@ module _ (p : Plant) (mask : ℕ) where
           omega (arith, ap length all.1, length-append (ahead p mask the_move x u) (u ∷ all.0))
 
       -- where its ends begin
-      pub group-begin : get_or (group_begins p mask) (length (ahead p mask the_move x u)) 0
+      pub group_begin : get_or (group_begins p mask) (length (ahead p mask the_move x u)) 0
           ≡ length (ahead p mask the_ends x u)
       unfolding group_begins group_sizes
-      group-begin =
+      group_begin =
           let all = own the_size in
           rw (ahead_long x u) at (bounds_here (group_sizes p mask) (ahead p mask the_size x u) _ all.1)
           ∙ ahead_total x u
 
       -- where they stop
-      pub group-stop : get_or (group_begins p mask) (suc (length (ahead p mask the_move x u))) 0
+      pub group_stop : get_or (group_begins p mask) (suc (length (ahead p mask the_move x u))) 0
           ≡ length (ahead p mask the_ends x u) + length (ends p x u)
       unfolding group_begins group_sizes
-      group-stop =
+      group_stop =
           let all = own the_size in
           let size : ℕ = length (ends p x u) in
           let split : group_sizes p mask ≡ ahead p mask the_size x (suc u) ++ all.0 =
@@ -246,9 +246,9 @@ module _ (p : Plant) (mask : ℕ) where
           ∙ length-append (ahead p mask the_ends x u) (ends p x u)
 
       -- both are stored
-      pub group-bounds : suc (length (ahead p mask the_move x u)) < length (group_begins p mask)
+      pub group_bounds : suc (length (ahead p mask the_move x u)) < length (group_begins p mask)
       unfolding group_begins group_sizes
-      group-bounds =
+      group_bounds =
           let all = own the_size in
           omega (
             arith,
@@ -259,10 +259,10 @@ module _ (p : Plant) (mask : ℕ) where
           )
 
       -- its ends
-      pub group-ends : (rest : List ℕ)
+      pub group_ends_lem : (rest : List ℕ)
           × (drop (length (ahead p mask the_ends x u)) (group_ends p mask) ≡ ends p x u ++ rest)
       unfolding group_ends
-      group-ends =
+      group_ends_lem =
           let all = own the_ends in (
             all.0,
             ap (drop (length (ahead p mask the_ends x u))) all.1

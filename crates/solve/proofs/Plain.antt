@@ -24,7 +24,7 @@ use Rattle.solve.specs.Rows.{is_new, Placed}
 use Rattle.solve.proofs.RowPlaces.{rowed_placed}
 use Rattle.solve.proofs.Starts.{begun}
 use Rattle.solve.proofs.StageReach.{forced_same}
-use Rattle.solve.proofs.Entries.{has_wait, entries-are}
+use Rattle.solve.proofs.Entries.{has_wait, entries_are}
 use Rattle.solve.proofs.StageSteps.{entry_reached}
 
 -- in an array of marks no state has a move
@@ -82,7 +82,7 @@ module _ (p : Plant) (mask : ℕ) (start : List ℕ) (plain : p.settles ≡ fals
     unfolding row_of one_row stage_numbers
     row_is number x m =
         ap₂ (λ (b : Bool) (ys : List ℕ). pick b (number ∷ []) [] ++ ys) plain
-        (entries-are p mask leave Kept kept_set small waits columns some_goal full x m
+        (entries_are p mask leave Kept kept_set small waits columns some_goal full x m
         ∙ joined_same (λ i. reached p mask leave Kept i x ∷ (reached_by p mask leave Kept i x ∷ []))
         (entry_numbers p mask Kept x) p.goals 0
         (λ i l b.

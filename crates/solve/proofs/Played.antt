@@ -125,7 +125,7 @@ module _ (p : Plant) (mask : ℕ) (ok : PlantOk p) (few : length p.arrows ≤ 81
     unfolding playable roomy_for
     can_play room wide =
         let sizes = ok.sizes in
-        let product : p.goals * p.states ≤ 8192 = product-few p.goals p.states sizes.goals_most sizes.states_most in
+        let product : p.goals * p.states ≤ 8192 = product_few p.goals p.states sizes.goals_most sizes.states_most in
         and_true
         (and_true (le-leb p.states 1024 sizes.states_most)
         (and_true (le-leb 2049 (length graph) g.long)
@@ -138,8 +138,8 @@ module _ (p : Plant) (mask : ℕ) (ok : PlantOk p) (few : length p.arrows ≤ 81
         (le-leb (p.goals * p.states) room (omega arith)))))))))
         (and_true hyper (ap (rising 0 p.states) set ∙ filter_rising (λ y. is_in y first) p.states))
       where
-        product-few : (a b : ℕ) → a ≤ 8 → b ≤ 1024 → a * b ≤ 8192
-        product-few a b ha hb =
+        product_few : (a b : ℕ) → a ≤ 8 → b ≤ 1024 → a * b ≤ 8192
+        product_few a b ha hb =
             let m = mul-le-mul_right {m = a} {n = 8} b ha in
             omega arith
 

@@ -94,40 +94,40 @@ module _ {p : Plant} {mask : ℕ} {table waits : List ℕ} {x : ℕ} (q : Sought
 
       module _ (h : g < last) where
         -- otherwise there is a next group
-        left-group : Group p mask ys x l.left l.from
-        left-group = groups_some p mask ys x l.left l.from (omega (arith, l.more))
+        left_group : Group p mask ys x l.left l.from
+        left_group = groups_some p mask ys x l.left l.from (omega (arith, l.more))
 
         -- it is the group of this move
-        group-here : length (ahead p mask the_move x left-group.move) ≡ g
-        group-here = left-group.here ∙ sym l.here
+        group_here : length (ahead p mask the_move x left_group.move) ≡ g
+        group_here = left_group.here ∙ sym l.here
 
         -- which is one of the plant's
-        group-below : left-group.move < p.moves
-        group-below = omega (arith, left-group.all, l.all)
+        group_below : left_group.move < p.moves
+        group_below = omega (arith, left_group.all, l.all)
 
         -- where its ends begin and stop is stored
-        bounds-in : suc g < length (group_begins p mask)
-        bounds-in =
-            let m = left-group in
-            rw group-here at (groups.group-bounds p mask x m.move m.is_available q.here group-below)
+        bounds_in : suc g < length (group_begins p mask)
+        bounds_in =
+            let m = left_group in
+            rw group_here at (groups.group_bounds p mask x m.move m.is_available q.here group_below)
 
         -- it stands in the table
         pub left_in : 1026 + g < length table
         left_in =
-            omega (arith, front_in 1025 (group_begins p mask) table q.table_is.begins_is (suc g) bounds-in)
+            omega (arith, front_in 1025 (group_begins p mask) table q.table_is.begins_is (suc g) bounds_in)
 
         -- its ends are those in between
-        pub left-ends : Ends p mask ys x last g (get_or table (1026 + g) 0) (get_or table (1025 + g) 0)
+        pub left_ends : Ends p mask ys x last g (get_or table (1026 + g) 0) (get_or table (1025 + g) 0)
         unfolding ends
-        left-ends =
-            let m = left-group in
+        left_ends =
+            let m = left_group in
             let u = m.move in
-            let behind = groups.group-ends p mask x u m.is_available q.here group-below in
-            let begin = front_at 1025 (group_begins p mask) table q.table_is.begins_is g (omega (arith, bounds-in))
-            ∙ rw group-here at (groups.group-begin p mask x u m.is_available q.here group-below) in
+            let behind = groups.group_ends_lem p mask x u m.is_available q.here group_below in
+            let begin = front_at 1025 (group_begins p mask) table q.table_is.begins_is g (omega (arith, bounds_in))
+            ∙ rw group_here at (groups.group_begin p mask x u m.is_available q.here group_below) in
             let next : 1025 + suc g ≡ 1026 + g = omega arith in
-            let stop = rw next at (front_at 1025 (group_begins p mask) table q.table_is.begins_is (suc g) bounds-in)
-            ∙ rw group-here at (groups.group-stop p mask x u m.is_available q.here group-below) in
+            let stop = rw next at (front_at 1025 (group_begins p mask) table q.table_is.begins_is (suc g) bounds_in)
+            ∙ rw group_here at (groups.group_stop p mask x u m.is_available q.here group_below) in
             record {
               move = u;
               left = m.left;
@@ -135,7 +135,7 @@ module _ {p : Plant} {mask : ℕ} {table waits : List ℕ} {x : ℕ} (q : Sought
               rest = behind.0;
               all = m.all ∙ l.all;
               is_available = m.is_available;
-              here = sym group-here;
+              here = sym group_here;
               more = omega (arith, l.more, m.more);
               stop_is = stop ∙ ap (λ (i : ℕ). i + length (ends p x u)) (sym begin);
               text = rw begin behind.1;
@@ -150,8 +150,8 @@ module _ {p : Plant} {mask : ℕ} {table waits : List ℕ} {x : ℕ} (q : Sought
       move_below = omega (arith, d.all)
 
       -- the group is before the last
-      pub ends-before : g < last
-      ends-before = omega (arith, d.more)
+      pub ends_before : g < last
+      ends_before = omega (arith, d.more)
 
       -- it is one of the groups
       group_in : g < length (group_moves p mask)
@@ -159,23 +159,23 @@ module _ {p : Plant} {mask : ℕ} {table waits : List ℕ} {x : ℕ} (q : Sought
           rw (sym d.here) at (groups.group_in p mask x d.move d.is_available q.here move_below)
 
       -- so its move stands in the table
-      pub ends-move-in : moves_at table + g < length table
-      ends-move-in = front_in (moves_at table) (group_moves p mask) table q.table_is.moves_is g group_in
+      pub ends_move_in : moves_at table + g < length table
+      ends_move_in = front_in (moves_at table) (group_moves p mask) table q.table_is.moves_is g group_in
 
       -- past the last end: the move goes into the set
-      pub ends-all : stop ≤ at → move_into p mask ys x ≡ get_or table (moves_at table + g) 0
+      pub ends_all : stop ≤ at → move_into p mask ys x ≡ get_or table (moves_at table + g) 0
       unfolding all_in
-      ends-all h =
+      ends_all h =
           let none : d.todo ≡ [] = drop_of_length-le d.todo {i = 0} (omega (arith, d.stop_is)) in
           let good : goes_into p mask ys x d.move ≡ true = d.into ∙ ap (λ (zs : List ℕ). all_in zs ys) none in
           let read = front_at (moves_at table) (group_moves p mask) table q.table_is.moves_is g group_in
-          ∙ rw (sym d.here) at (groups.group-move p mask x d.move d.is_available q.here move_below) in
+          ∙ rw (sym d.here) at (groups.group_move p mask x d.move d.is_available q.here move_below) in
           d.same ∙ first_yes d.left d.move (goes_into p mask ys x) good ∙ sym read
 
       module _ (h : at < stop) where
         -- an end is left
-        end-in : at < length (group_ends p mask)
-        end-in =
+        end_in : at < length (group_ends p mask)
+        end_in =
             omega (
               arith,
               d.stop_is,
@@ -185,8 +185,8 @@ module _ {p : Plant} {mask : ℕ} {table waits : List ℕ} {x : ℕ} (q : Sought
             )
 
         -- it stands in the table
-        pub ends-in : ends_at table + at < length table
-        ends-in = front_in (ends_at table) (group_ends p mask) table q.table_is.ends_is at end-in
+        pub ends_in_lem : ends_at table + at < length table
+        ends_in_lem = front_in (ends_at table) (group_ends p mask) table q.table_is.ends_is at end_in
 
         -- the end that is read
         abbrev Next : ℕ
@@ -195,24 +195,24 @@ module _ {p : Plant} {mask : ℕ} {table waits : List ℕ} {x : ℕ} (q : Sought
         -- it is the first of those left, and the others come after it
         split : (d.todo ≡ Next ∷ drop 1 d.todo) × (drop (suc at) (group_ends p mask) ≡ drop 1 d.todo ++ d.rest)
         split =
-            let read = front_at (ends_at table) (group_ends p mask) table q.table_is.ends_is at end-in in
+            let read = front_at (ends_at table) (group_ends p mask) table q.table_is.ends_is at end_in in
             let some = drop-cons d.todo 0 0 (omega (arith, d.stop_is)) in
             let text : get_or (group_ends p mask) at 0 ∷ drop (suc at) (group_ends p mask)
             ≡ get_or d.todo 0 0 ∷ (drop 1 d.todo ++ d.rest) =
-            sym (drop-cons (group_ends p mask) at 0 end-in)
+            sym (drop-cons (group_ends p mask) at 0 end_in)
             ∙ d.text
             ∙ ap (λ (zs : List ℕ). zs ++ d.rest) some in
             let here : Next ≡ get_or d.todo 0 0 = cc in
             (some ∙ ap (λ (y : ℕ). y ∷ drop 1 d.todo) (sym here), cc)
 
         -- it is a state
-        pub ends-state : Next < p.states
-        ends-state = d.states Next (rw split.0 (is_in_here Next (drop 1 d.todo)))
+        pub ends_state : Next < p.states
+        ends_state = d.states Next (rw split.0 (is_in_here Next (drop 1 d.todo)))
 
         -- it is in the set: the others decide
-        pub ends-pass : is_in Next ys ≡ true → Ends p mask ys x last g stop (at + 1)
+        pub ends_pass : is_in Next ys ≡ true → Ends p mask ys x last g stop (at + 1)
         unfolding all_in
-        ends-pass e =
+        ends_pass e =
             record {
               move = d.move;
               left = d.left;
@@ -230,9 +230,9 @@ module _ {p : Plant} {mask : ℕ} {table waits : List ℕ} {x : ℕ} (q : Sought
             }
 
         -- it is not: the groups behind decide
-        pub ends-fail : is_in Next ys ≡ false → Left p mask ys x last (g + 1)
+        pub ends_fail : is_in Next ys ≡ false → Left p mask ys x last (g + 1)
         unfolding all_in
-        ends-fail e =
+        ends_fail e =
             let bad : goes_into p mask ys x d.move ≡ false =
             d.into ∙ ap (λ (zs : List ℕ). all_in zs ys) split.0 ∙ rw e in
             record {

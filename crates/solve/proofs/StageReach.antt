@@ -13,7 +13,7 @@ use Rattle.statements.specs.Kept.{grown, target, forced, Stage, level, wait_in, 
 use Rattle.sets.proofs.Tests.{decided}
 use Rattle.sets.proofs.Members.{Sifted, filter_same, sifted_filter, sifted_same, is_in_here, is_in_there}
 use Rattle.kept.proofs.Reach.{steps_sifted}
-use Rattle.kept.proofs.Waits.{Sound, steps_level, level_kept, wait-level, level-wait, nearer_holds, nearer_in_lem}
+use Rattle.kept.proofs.Waits.{Sound, steps_level, level_kept, wait_level, level_wait, nearer_holds, nearer_in_lem}
 use Rattle.kept.proofs.Waits.{landing_exit, landing_nearer}
 use Rattle.solve.specs.Reached.{goes, within, before, found_by, step_of, reached, reached_by}
 
@@ -76,9 +76,9 @@ module _ (p : Plant) (mask : ℕ) (leave : List ℕ) (s : Stage) (some_goal : 0 
       (nearer_sifted (suc n))
       (λ y m. let k = level_kept p mask s some_goal sound i i-goal n y m in
       nearer_in_lem p mask s some_goal sound i i-goal (suc n) y k
-      (λ l. let w = level-wait p mask s some_goal sound i i-goal y k n m in omega arith))
+      (λ l. let w = level_wait p mask s some_goal sound i i-goal y k n m in omega arith))
       (λ y m. let r = nearer_holds p mask s some_goal sound i i-goal (suc n) y m in
-      wait-level p mask s some_goal sound i i-goal y r.0 n (let l = r.1 (omega arith) in omega arith))
+      wait_level p mask s some_goal sound i i-goal y r.0 n (let l = r.1 (omega arith) in omega arith))
 
   -- a listed move may end in what was reached before, where a state cannot leave
   before_landing : (x : ℕ) → s.exits x ≡ false → (w : ℕ) → W x ≡ w → before p mask leave kept i w ≡ landing p mask s i x

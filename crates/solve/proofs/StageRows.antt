@@ -27,7 +27,7 @@ use Rattle.solve.specs.Rows.{Columns, kept_from, entry_numbers, one_row, Rowed, 
 use Rattle.solve.specs.Stages.{Opened, Staged, Calm}
 use Rattle.solve.proofs.RowPlaces.{rowed_placed}
 use Rattle.solve.proofs.StageReach.{forced_same}
-use Rattle.solve.proofs.Entries.{has_wait, entries-are}
+use Rattle.solve.proofs.Entries.{has_wait, entries_are}
 use Rattle.solve.proofs.StageSteps.{below_stages, next_held, entry_reached, new_kept, new_stage, new_row}
 
 pub pick_yes : (b : Bool) (u v : ℕ) → b ≡ true → pick b u v ≡ u
@@ -143,7 +143,7 @@ module _ (p : Plant) (mask : ℕ) (start : List ℕ) (some_goal : 0 < p.goals) (
         let m = both x h e in
         row_settled p mask leave waits number x settling
         ∙ (ap₂ (λ (v : ℕ) (ys : List ℕ). v ∷ ys) is
-        (entries-are p mask leave (Upto (suc k)) set small waits columns some_goal full x m.0
+        (entries_are p mask leave (Upto (suc k)) set small waits columns some_goal full x m.0
         ∙ joined_same (λ i. reached p mask leave (Upto (suc k)) i x ∷ (reached_by p mask leave (Upto (suc k)) i x ∷ []))
         (entry_numbers p mask Kept x) p.goals 0
         (λ i l b.

@@ -140,7 +140,7 @@ module _ {p : Plant} {b : List ℕ} {states goals : ℕ → ℕ} (s : Seeks p b 
 
   -- every goal is met again and again: by stages, and in a stage by how far ahead in turn it is
   pub seeks_again : (i n : ℕ) → i < p.goals → (m : ℕ) × (n ≤ m) × InGoal p i (states m)
-  seeks_again i n hi = by-stage (suc (stage_at b (states n))) n (omega arith)
+  seeks_again i n hi = by_stage (suc (stage_at b (states n))) n (omega arith)
     where
       Met : ℕ → Type 0
       Met n = (m : ℕ) × (n ≤ m) × InGoal p i (states m)
@@ -168,10 +168,10 @@ module _ {p : Plant} {b : List ℕ} {states goals : ℕ → ℕ} (s : Seeks p b 
           (λ r. sooner n (suc r.moment) (omega (arith, r.later)) (lower (suc r.moment) (omega (arith, r.gone))))
           (seeks_over n)
 
-      by-stage : (c n : ℕ) → stage_at b (states n) < c → Met n
-      by-stage zero n h = absurd (omega arith)
-      by-stage (suc c) n h =
-          by_turn c (λ m l. by-stage c m l) (suc (ahead (book_goals b) (Aim n) i)) n (omega arith) (omega arith)
+      by_stage : (c n : ℕ) → stage_at b (states n) < c → Met n
+      by_stage zero n h = absurd (omega arith)
+      by_stage (suc c) n h =
+          by_turn c (λ m l. by_stage c m l) (suc (ahead (book_goals b) (Aim n) i)) n (omega arith) (omega arith)
 
 -- where each state is settled or left for an earlier stage, those that are not settled are few
 pub few_unsettled :

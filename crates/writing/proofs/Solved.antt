@@ -90,20 +90,20 @@ module _ (good : Bool) (s : List ℕ) (mask : ℕ) (start o : List ℕ) (fine : 
 
     module _ {o₁ : List ℕ} (rows : o₁ ≡ solved_rows good s mask start o) where
       -- the mark: it cannot, and the buffer stays
-      pub mark-unwritten : r ≡ 65535 → (0 ≡ written_long good s start o) × (o₁ ≡ written_book good s mask start o)
-      mark-unwritten mark =
+      pub mark_unwritten : r ≡ 65535 → (0 ≡ written_long good s start o) × (o₁ ≡ written_book good s mask start o)
+      mark_unwritten mark =
           elim (decided (writable good s start o)) [
             | inl t ↦ absurd (omega (arith, kept_few t))
             | inr t ↦ ((not_written t).0, rows ∙ sym (fails t).1 ∙ (not_written t).1)
           ]
 
       -- it is written: the rows that the solver left, and the header with the number that it returned
-      pub book-done : writable good s start o ≡ true
+      pub book_done : writable good s start o ≡ true
           → {long : ℕ} → long ≡ book_long (plant_of s).settles (plant_of s).states (plant_of s).goals
           → {o₂ : List ℕ} → ((kept : List ℕ) → length kept ≡ r → o₂ ≡ over (head_of (plant_of s) mask kept) o₁)
           → (long ≡ written_long good s start o) × (o₂ ≡ written_book good s mask start o)
       unfolding book_within
-      book-done t e head = (
+      book_done t e head = (
         e ∙ sym (written t).0,
         book_written (plant_of s) mask Kept o (omega (arith, room_of good s start o t, book_rows (plant_of s)))
             (rows ∙ sym (works t).1) (head Kept ((works t).0 ∙ sym count))

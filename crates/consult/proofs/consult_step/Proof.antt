@@ -5,7 +5,7 @@ use native.Mathlib.Omega.{arith}
 use Prim.Native.Nat.{◌<◌}
 use Rattle.statements.specs.Books.{book_states}
 use Rattle.promises.proofs.Demands.{of_step}
-use Rattle.consult.proofs.Stepping.{step_refused, step_past, next-fine, step-lost, step_kept, step_given}
+use Rattle.consult.proofs.Stepping.{step_refused, step_past, next_fine, step_lost, step_kept, step_given}
 use Rattle.consult.proofs.consult_step.Statement.{statement}
 use Rattle.consult.proofs.consult_step.Tie as tie
 
@@ -58,7 +58,7 @@ answer-requires c κs =
     let past = c in
     let told = past in
     let a = told.args in
-    next-fine a.plant.now a.book.now a.state a.goal a.end told.consult_plant-here.ensures.0
+    next_fine a.plant.now a.book.now a.state a.goal a.end told.consult_plant-here.ensures.0
     past.if-here-ne0.false (state_low past.before)
 
 returns-3 : tie.Need-returns-then-here
@@ -66,7 +66,7 @@ returns-3 c =
     let past = c in
     let told = past in
     let a = told.args in (
-      step-lost a.plant.now a.book.now a.state a.goal a.end told.consult_plant-here.ensures.0
+      step_lost a.plant.now a.book.now a.state a.goal a.end told.consult_plant-here.ensures.0
           past.if-here-ne0.false (state_low past.before.before.before) c.answer-next.ensures c.if-here.true,
       of_step,
     )

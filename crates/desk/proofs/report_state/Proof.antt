@@ -2,7 +2,7 @@
 -- What it cites comes from the call's own clauses. Assumes nothing.
 use borrow.Author.Rules.{rules}
 use borrow.Author.Tests.{not-true, not-false}
-use Rattle.desk.proofs.Answers.{report-none, report-strays, report-shown}
+use Rattle.desk.proofs.Answers.{report_none, report_strays, report_shown}
 use Rattle.desk.proofs.Sessions.{of_desk}
 use Rattle.desk.proofs.report_state.Statement.{statement}
 use Rattle.desk.proofs.report_state.Tie as tie
@@ -13,7 +13,7 @@ consult-step-requires c κs = search rules
 returns : tie.Need-returns-then-advice-ne0
 returns c =
     let told = c.consult_step-step.ensures in
-    (report-none told.0 c.if-advice-ne0.true, of_desk told.1)
+    (report_none told.0 c.if-advice-ne0.true, of_desk told.1)
 
 refused-requires : tie.Need-refused-none-requires
 refused-requires c κs = search rules
@@ -23,7 +23,7 @@ returns-2 c =
     let strays = c in
     let on = strays in
     let told = on.consult_step-step.ensures in
-    (report-strays told.0 on.if-advice-ne0.false (not-true _ strays.if-not-step.true) c.refused-none.ensures, of_desk told.1)
+    (report_strays told.0 on.if-advice-ne0.false (not-true _ strays.if-not-step.true) c.refused-none.ensures, of_desk told.1)
 
 cast-held : tie.Need-overflow_cast-here
 cast-held c = search rules
@@ -36,7 +36,7 @@ returns-3 c =
     let leads = c in
     let on = leads in
     let told = on.consult_step-step.ensures in (
-      report-shown told.0 on.if-advice-ne0.false told.1.1.0 (not-false _ leads.if-not-step.false) _ c.held-next.ensures,
+      report_shown told.0 on.if-advice-ne0.false told.1.1.0 (not-false _ leads.if-not-step.false) _ c.held-next.ensures,
       of_desk told.1,
     )
 

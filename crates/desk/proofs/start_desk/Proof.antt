@@ -1,7 +1,7 @@
 -- `desk::start_desk` meets its contract: refused, or the advice of consult with the plant. What it cites comes from the
 -- call's own clauses. Assumes nothing.
 use borrow.Author.Rules.{rules}
-use Rattle.desk.proofs.Answers.{start_none, start-shown}
+use Rattle.desk.proofs.Answers.{start_none, start_shown}
 use Rattle.desk.proofs.Sessions.{of_desk}
 use Rattle.desk.proofs.start_desk.Statement.{statement}
 use Rattle.desk.proofs.start_desk.Tie as tie
@@ -20,7 +20,7 @@ held-requires c κs = search rules
 returns-2 : tie.Need-returns
 returns-2 c =
     let told = c.consult_plant-advice.ensures in
-    (start-shown told.0 _ c.if-advice-ne0.false c.held-goal.ensures, of_desk told.1)
+    (start_shown told.0 _ c.if-advice-ne0.false c.held-goal.ensures, of_desk told.1)
 
 pub start_desk_spec : {M : Type 1} → statement M
 start_desk_spec = tie.close (tie.spec consult-plant-requires returns held-requires returns-2)

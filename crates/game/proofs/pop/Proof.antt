@@ -6,7 +6,7 @@ use native.Mathlib.Omega.{arith}
 use borrow.Author.Rules.{rules}
 use lib.ListN.{length, get_or, length-set}
 use Rattle.game.proofs.Pass.{Pass, pass_start}
-use Rattle.game.proofs.Turns.{Ready, ready, Turn, turn, turn-room, turn-hit, turn-miss, turn_end, pass_to}
+use Rattle.game.proofs.Turns.{Ready, ready, Turn, turn, turn_room, turn_hit, turn_miss, turn_end, pass_to}
 use Rattle.game.proofs.pop.Statement.{statement}
 use Rattle.game.proofs.pop.Tie as tie
 
@@ -155,7 +155,7 @@ mul-queue c = omega (arith, (in_turn_lem (turned c)).few)
 slice-write-queue : tie.Need-bounds-queue-end invariant-loop-j decreases-loop-j
 slice-write-queue c =
     let l = (turned c).loop-j in
-    turn-room _ _ _ _ _ _ _ (head_ready (opened (turned c))) _ _ _ _ _ l.invariant.0 (turned c).loop-j-test.true _
+    turn_room _ _ _ _ _ _ _ (head_ready (opened (turned c))) _ _ _ _ _ l.invariant.0 (turned c).loop-j-test.true _
     c.misses.ensures c.if-misses-eq0.true
 
 add-end : tie.Need-overflow_add-end invariant-loop-j decreases-loop-j
@@ -180,7 +180,7 @@ loop-again c =
     ⊎_elim
     (λ w. (
       pass_to _ _ _ _ _ _ _ _ _ _ w.waits-is w.queue-is w.end-is
-          (turn-hit _ _ _ _ _ _ _ e _ _ _ _ _ i.0 taken _ missed w.if-misses-eq0.true),
+          (turn_hit _ _ _ _ _ _ _ e _ _ _ _ _ i.0 taken _ missed w.if-misses-eq0.true),
       refl,
       refl,
       refl,
@@ -190,7 +190,7 @@ loop-again c =
     ))
     (λ w. (
       pass_to _ _ _ _ _ _ _ _ _ _ w.waits-is w.queue-is w.end-is
-          (turn-miss _ _ _ _ _ _ _ e _ _ _ _ _ i.0 taken _ missed w.if-misses-eq0.false),
+          (turn_miss _ _ _ _ _ _ _ e _ _ _ _ _ i.0 taken _ missed w.if-misses-eq0.false),
       refl,
       refl,
       refl,

@@ -10,7 +10,7 @@ use Rattle.graph.specs.Packed.{accepts}
 use Rattle.solve.proofs.Answers.{book_rows, accepts_fine}
 use Rattle.writing.specs.Written.{writable}
 use Rattle.writing.proofs.Solved.{writable_fine, room_of, kept_few, has_solved}
-use Rattle.writing.proofs.Solved.{mark-unwritten, book-done}
+use Rattle.writing.proofs.Solved.{mark_unwritten, book_done}
 use borrow.Author.Rules.{rules}
 use Rattle.writing.proofs.book.Statement.{statement}
 use Rattle.writing.proofs.book.Tie as tie
@@ -50,7 +50,7 @@ returns : tie.Need-returns-then-kept-eq65535
 returns c =
     let v = c in
     let a = (entry v.before.before.before).args in
-    mark-unwritten (good (entry v.before.before.before)) a.plant.now a.way.mask a.start.now a.out.now (accepts_fine _ _ _) v.solve-kept.ensures.0
+    mark_unwritten (good (entry v.before.before.before)) a.plant.now a.way.mask a.start.now a.out.now (accepts_fine _ _ _) v.solve-kept.ensures.0
     v.solve-kept.ensures.1 c.if-kept-eq65535.true
 
 cast-head : tie.Need-overflow_cast-kept
@@ -92,7 +92,7 @@ returns-2 c =
     let e = h in
     let v = solved e.before.before.before.before.before in
     let a = (entry v).args in
-    book-done (good (entry v)) a.plant.now a.way.mask a.start.now a.out.now (accepts_fine _ _ _) v.solve-kept.ensures.0
+    book_done (good (entry v)) a.plant.now a.way.mask a.start.now a.out.now (accepts_fine _ _ _) v.solve-kept.ensures.0
     v.solve-kept.ensures.1 (can e.before.before.before.before.before) c.book_long.ensures h.head.ensures
 
 pub book_spec : {M : Type 1} → statement M

@@ -3,7 +3,7 @@
 use mathlib.Core.Path.{sym, ◌∙◌}
 use mathlib.Core.Logic.{⊎_elim}
 use Rattle.statements.specs.Plants.{plant_of}
-use Rattle.consult.proofs.Rule.{good_lost, good_plain, good-early, good-onward}
+use Rattle.consult.proofs.Rule.{good_lost, good_plain, good_early, good_onward}
 use borrow.Author.Rules.{rules}
 use Rattle.consult.proofs.moves.good.Statement.{statement}
 use Rattle.consult.proofs.moves.good.Tie as tie
@@ -30,7 +30,7 @@ returns-2 c =
     let g = then in
     let l = g in
     let a = l.args in
-    good-early (plant_of a.plant.now) a.book.now a.state a.goal
+    good_early (plant_of a.plant.now) a.book.now a.state a.goal
     (sym l.is_lost.ensures ∙ g.if-is_lost.false) (sym g.staged.ensures ∙ then.if-staged.true)
     m.moves_into-earlier.ensures c.if-earlier-ne0.true
 
@@ -45,7 +45,7 @@ returns-3 c =
     let a = l.args in
     let kept = sym l.is_lost.ensures ∙ g.if-is_lost.false in
     ⊎_elim
-    (λ yes. good-onward (plant_of a.plant.now) a.book.now a.state a.goal kept
+    (λ yes. good_onward (plant_of a.plant.now) a.book.now a.state a.goal kept
     (sym g.staged.ensures ∙ yes.if-staged.true) yes.moves_into-earlier.ensures yes.if-earlier-ne0.false c.moves_into.ensures)
     (λ no. good_plain (plant_of a.plant.now) a.book.now a.state a.goal kept
     (sym g.staged.ensures ∙ no.if-staged.false) c.moves_into.ensures)

@@ -6,7 +6,7 @@ use native.Mathlib.Omega.{arith}
 use lib.Dec.{eqb}
 use Rattle.decoding.proofs.Faults.{states_few}
 use Rattle.consult.proofs.Ascending.{rank_read}
-use Rattle.consult.proofs.Leading.{leads_none, leads-here}
+use Rattle.consult.proofs.Leading.{leads_none, leads_here}
 use Rattle.consult.proofs.moves.leads.Statement.{statement}
 use Rattle.consult.proofs.moves.leads.Tie as tie
 
@@ -52,7 +52,7 @@ returns-2 c =
     let s = start.args.plant.now in
     let sought = found.rank_of-rank.ensures in
     ap₂ eqb (rank_read s _ read.read-arrow.ensures c.rank_of.ensures) sought
-    ∙ leads-here s start.args.state start.args.action start.args.end
+    ∙ leads_here s start.args.state start.args.action start.args.end
     (rw sought at found.first_at-k.ensures) start.requires.0
     (omega (arith, left.number.ensures, left.if-number-k.false)) (search rules)
     (omega (arith, start.requires.1.1, states_few s start.requires.0))

@@ -9,8 +9,8 @@ use lib.Seq.{length-take-le}
 use Rattle.statements.specs.Sets.{filter}
 use Rattle.game.specs.Cuts.{waits_all}
 use Rattle.game.specs.Playing.{SoughtIn, Rest, last_eight}
-use Rattle.game.proofs.Plays.{Outset, MarkedIn, standing, first_round, set_begins, next-round}
-use Rattle.game.proofs.Plays.{last-played, rest_more}
+use Rattle.game.proofs.Plays.{Outset, MarkedIn, standing, first_round, set_begins, next_round_lem}
+use Rattle.game.proofs.Plays.{last_played, rest_more}
 use Rattle.game.proofs.play.rounds.Statement.{statement}
 use Rattle.game.proofs.play.rounds.Tie as tie
 
@@ -204,7 +204,7 @@ returns c =
     let still : length (take t.loop-kept.kept t.loop-kept.list)
     ≤ length (take d.shrink-left.result d.shrink-left.new.list) =
     omega (arith, size, c.if-kept-left.true, l.0, ap length l.1.0) in
-    last-played _ _ _ _ _ p.ready _ _ _ _ _ _ t.loop-kept.invariant.0.round (reached sk) _ l.1.0 still _ _ size
+    last_played _ _ _ _ _ p.ready _ _ _ _ _ _ t.loop-kept.invariant.0.round (reached sk) _ l.1.0 still _ _ size
     p.room (untouched sk)
 
 loop-less : tie.Need-loop-kept-smaller invariant-loop-kept decreases-loop-kept
@@ -223,7 +223,7 @@ loop-again c =
       record {
         room = omega (arith, c.if-kept-left.false, kept.list, i.0.room);
         marked = l.1.1;
-        round = next-round _ _ _ _ _ s.requires.ready _ _ _ _ _ _ i.0.round (reached sk) _ l.1.0;
+        round = next_round_lem _ _ _ _ _ s.requires.ready _ _ _ _ _ _ i.0.round (reached sk) _ l.1.0;
         rest = untouched sk;
         scratch_long = omega (arith, sought-kept.scratch, i.0.scratch_long);
         queue_long = kept.gone ∙ (sought-kept.queue ∙ i.0.queue_long);

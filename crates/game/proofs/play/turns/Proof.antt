@@ -14,9 +14,9 @@ use Rattle.game.specs.Packed.{labels_in, over_at, can_in}
 use Rattle.game.specs.Cuts.{waits_all}
 use Rattle.game.specs.Draining.{drained}
 use Rattle.game.specs.Playing.{SoughtIn, Rest, last_eight}
-use Rattle.game.proofs.Plays.{Outset, MarkedIn, standing, first_round, set_begins, all-played, rest_more}
+use Rattle.game.proofs.Plays.{Outset, MarkedIn, standing, first_round, set_begins, all_played, rest_more}
 use Rattle.game.proofs.Goals.{Quiet, quiet_none, quiet_all, ready_fewer, rest_from, turn_less}
-use Rattle.game.proofs.Goals.{turn_on, turn-round, turn-few, turn-quiet}
+use Rattle.game.proofs.Goals.{turn_on, turn_round, turn_few, turn_quiet}
 use Rattle.game.proofs.play.turns.Statement.{statement}
 use Rattle.game.proofs.play.turns.Tie as tie
 
@@ -308,7 +308,7 @@ fewer c =
     let i = t.loop-still.invariant in
     let size = length-take-le t.loop-still.kept t.loop-still.list i.0.room in
     let few =
-    turn-few _ _ _ _ _ (entry t).requires.ready _ _ _ _ _ _ _ _ i.0.round i.3 (reached sk) _ (anew_is f) _
+    turn_few _ _ _ _ _ (entry t).requires.ready _ _ _ _ _ _ _ _ i.0.round i.3 (reached sk) _ (anew_is f) _
     (left_is c).1.0 in
     (size, omega (arith, few, size, (left_is c).0))
 
@@ -335,7 +335,7 @@ loop-again c =
         room = omega (arith, (fewer d).1, kept.list, i.0.room);
         marked = l.1.1;
         round =
-            turn-round _ _ _ _ _ s.requires.ready _ _ _ _ _ _ _ _ i.0.round i.3 (reached sk) _ (anew_is f) _
+            turn_round _ _ _ _ _ s.requires.ready _ _ _ _ _ _ _ _ i.0.round i.3 (reached sk) _ (anew_is f) _
             l.1.0;
         rest = untouched sk;
         scratch_long = omega (arith, sought-kept.scratch, i.0.scratch_long);
@@ -346,7 +346,7 @@ loop-again c =
       },
       kept.dead ∙ i.1,
       sought-kept.scratch ∙ i.2,
-      turn-quiet _ _ _ _ _ s.requires.ready _ _ _ _ _ _ _ _ i.0.round i.3 (reached sk) _ (anew_is f) _ l.1.0
+      turn_quiet _ _ _ _ _ s.requires.ready _ _ _ _ _ _ _ _ i.0.round i.3 (reached sk) _ (anew_is f) _ l.1.0
           u.loop-still-test.true (fewer d).0 l.0 c.goal_after-goal.ensures c.still_after-still.ensures,
     )
 
@@ -368,7 +368,7 @@ returns c =
     let all = quiet_all _ _ _ _ _ i.3 c.loop-still-test.false in
     let size = length-take-le t.loop-still.kept t.loop-still.list i.0.room in
     let r = i.0.round in
-    all-played _ _ _ _ _ p.ready _ _ _ _ r.sifted r.same all.0 all.1 _ _ size p.room i.0.rest
+    all_played _ _ _ _ _ p.ready _ _ _ _ r.sifted r.same all.0 all.1 _ _ size p.room i.0.rest
 
 pub turns_spec : {M : Type 1} → statement M
 turns_spec =

@@ -8,8 +8,8 @@ use lib.ListN.{length, get_or, set, length-set}
 use Rattle.game.specs.Walked.{nodes}
 use Rattle.game.specs.Marks.{Marks, ends_at}
 use Rattle.game.proofs.Strikes.{struck, apart, Striking, strike_own, strike_start, strike_end}
-use Rattle.game.proofs.Strikes.{strike-place, strike-group, strike-node}
-use Rattle.game.proofs.Strikes.{strike-dead, strike-some, strike-last, strike-more}
+use Rattle.game.proofs.Strikes.{strike_place, strike_group, strike_node}
+use Rattle.game.proofs.Strikes.{strike_dead, strike_some, strike_last, strike_more}
 use Rattle.game.proofs.strike.strike_one.Statement.{statement}
 use Rattle.game.proofs.strike.strike_one.Tie as tie
 
@@ -80,7 +80,7 @@ place_in : (c : tie.In-loop-j invariant-loop-j decreases-loop-j)
     → c.loop-j.j < length (entry c).args.rev.now
 place_in c =
     let s = entry c in
-    strike-place s.requires.0.0 s.args.node s.requires.0.1 c.loop-j.invariant c.loop-j-test.true
+    strike_place s.requires.0.0 s.args.node s.requires.0.1 c.loop-j.invariant c.loop-j-test.true
 
 abbrev group : tie.In-loop-j invariant-loop-j decreases-loop-j → ℕ
 group c = get_or (entry c).args.rev.now c.loop-j.j 0
@@ -88,13 +88,13 @@ group c = get_or (entry c).args.rev.now c.loop-j.j 0
 group_in : (c : tie.In-loop-j invariant-loop-j decreases-loop-j) → group c < length (entry c).args.gs.now
 group_in c =
     let s = entry c in
-    strike-group s.requires.0.0 s.args.node s.requires.0.1 c.loop-j.invariant c.loop-j-test.true
+    strike_group s.requires.0.0 s.args.node s.requires.0.1 c.loop-j.invariant c.loop-j-test.true
 
 node_in : (c : tie.In-loop-j invariant-loop-j decreases-loop-j)
     → get_or (entry c).args.gs.now (group c) 0 < nodes (entry c).args.starts.now
 node_in c =
     let s = entry c in
-    strike-node s.requires.0.0 s.args.node s.requires.0.1 c.loop-j.invariant c.loop-j-test.true
+    strike_node s.requires.0.0 s.args.node s.requires.0.1 c.loop-j.invariant c.loop-j-test.true
 
 mul-g : tie.Need-offset_bounds-rev-j invariant-loop-j decreases-loop-j
 mul-g c = omega (arith, place_in c)
@@ -144,7 +144,7 @@ sub-left : tie.Need-overflow_sub-left invariant-loop-j decreases-loop-j
 sub-left c =
     let t = c in
     let s = entry t.before.before.before.before.before in
-    strike-some s.requires.0.0 s.args.node s.requires.0.1 t.loop-j.invariant t.loop-j-test.true
+    strike_some s.requires.0.0 s.args.node s.requires.0.1 t.loop-j.invariant t.loop-j-test.true
     c.if-dead-g-eq0.true s.requires.1.0 (own_marks s)
 
 mul-live : tie.Need-offset_bounds-live-f-then-dead-g-eq0 invariant-loop-j decreases-loop-j
@@ -180,13 +180,13 @@ loop-again c =
     ⊎_elim
     (λ w.
     rw (w.member-is, w.live-is, w.dead-is)
-    (strike-last s.requires.0.0 s.args.node s.requires.0.1 inv more w.if-dead-g-eq0.true w.if-left-eq0.true))
+    (strike_last s.requires.0.0 s.args.node s.requires.0.1 inv more w.if-dead-g-eq0.true w.if-left-eq0.true))
     (⊎_elim
     (λ w.
     rw (w.member-is, w.live-is, w.dead-is)
-    (strike-more s.requires.0.0 s.args.node s.requires.0.1 inv more w.if-dead-g-eq0.true w.if-left-eq0.false))
+    (strike_more s.requires.0.0 s.args.node s.requires.0.1 inv more w.if-dead-g-eq0.true w.if-left-eq0.false))
     (λ w.
-    rw (w.member-is, w.live-is, w.dead-is) (strike-dead s.requires.0.0 s.args.node s.requires.0.1 inv more w.if-dead-g-eq0.false)))
+    rw (w.member-is, w.live-is, w.dead-is) (strike_dead s.requires.0.0 s.args.node s.requires.0.1 inv more w.if-dead-g-eq0.false)))
     c.if-dead-g-eq0.branch-raw
 
 same_length : tie.Need-shape_of-member invariant-loop-j decreases-loop-j

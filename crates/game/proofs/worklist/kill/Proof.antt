@@ -12,8 +12,8 @@ use Rattle.sets.proofs.Tests.{or_cases, or_neither}
 use Rattle.game.specs.Packed.{labels_in, over_at}
 use Rattle.game.proofs.Counts.{lt_or_le}
 use Rattle.game.proofs.Parts.{groups_end, labels_end}
-use Rattle.game.proofs.Killing.{label_over, kill_group, kill_rooms, kill_dead, kill-some, kill-more}
-use Rattle.game.proofs.Killing.{kill-unmarked, kill-over}
+use Rattle.game.proofs.Killing.{label_over, kill_group, kill_rooms, kill_dead, kill_some, kill_more}
+use Rattle.game.proofs.Killing.{kill_unmarked, kill_over}
 use Rattle.game.proofs.Killing.{push-new, push-room, kill-push}
 use Rattle.game.proofs.Pushing.{grown_none, grown_one}
 use Rattle.game.proofs.worklist.kill.Statement.{statement}
@@ -106,7 +106,7 @@ sub-left : tie.Need-overflow_sub-left
 sub-left c =
     let t = c in
     let s = fallen t.before.before in
-    kill-some _ _ _ _ _ s.requires.0 s.requires.1.4 s.requires.1.5 (not_dead t.before.before)
+    kill_some _ _ _ _ _ s.requires.0 s.requires.1.4 s.requires.1.5 (not_dead t.before.before)
 
 mul-live : tie.Need-offset_bounds-live-f-2
 mul-live c = omega (arith, node_fits c.before)
@@ -134,9 +134,9 @@ returns-2 c =
     let out = get_or s.args.member.now (node s) 0 in (
       λ ok after xs first d fails.
           ⊎_elim
-          (λ l. kill-more _ _ _ _ _ s.requires.0 d fails (not_dead t.before.before.before.before) l)
+          (λ l. kill_more _ _ _ _ _ s.requires.0 d fails (not_dead t.before.before.before.before) l)
           (λ l.
-          kill-unmarked _ _ _ _ _ s.requires.0 d fails (not_dead t.before.before.before.before) (omega arith)
+          kill_unmarked _ _ _ _ _ s.requires.0 d fails (not_dead t.before.before.before.before) (omega arith)
           (⊎_elim
           (λ h. absurd (let k = ltb-true 0 left h in omega arith))
           (λ h. ltb-true 0 out h)
@@ -191,7 +191,7 @@ returns-3 c =
     let t = c in
     let s = counted t.before.before.before in (
       λ ok after xs first d fails.
-          kill-over _ _ _ _ _ s.requires.0 d fails (not_dead t.before.before.before.before.before.before.before) (last_group t.before.before.before).0
+          kill_over _ _ _ _ _ s.requires.0 d fails (not_dead t.before.before.before.before.before.before.before) (last_group t.before.before.before).0
           (sym (is_over c.before) ∙ c.if-bit_at.true),
       grown_none _ _,
     )

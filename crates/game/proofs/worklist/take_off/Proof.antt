@@ -8,8 +8,8 @@ use lib.ListN.{length, get_or}
 use Rattle.sets.proofs.Iterate.{sifted_below}
 use Rattle.game.specs.Packed.{rev_in, starts_in}
 use Rattle.game.proofs.Parts.{rev_end, starts_end}
-use Rattle.game.proofs.Emptying.{start_at, rev_at, state_few, Taking, taking_start, taking-place, taking-fails}
-use Rattle.game.proofs.Emptying.{taking-more, taking-end}
+use Rattle.game.proofs.Emptying.{start_at, rev_at, state_few, Taking, taking_start, taking_place, taking_fails}
+use Rattle.game.proofs.Emptying.{taking_more, taking_end}
 use Rattle.game.proofs.worklist.take_off.Statement.{statement}
 use Rattle.game.proofs.worklist.take_off.Tie as tie
 
@@ -61,7 +61,7 @@ more c = rw (last_is (entry c)) at c.loop-j-test.true
 position : (c : tie.In-loop-j invariant-loop-j decreases-loop-j) → c.loop-j.j < (entry c).args.game.positions
 position c =
     let s = entry c in
-    taking-place _ _ _ _ _ s.requires.0 _ _ _ _ _ _ s.requires.1.0 (node_low s) c.loop-j.invariant (more c)
+    taking_place _ _ _ _ _ s.requires.0 _ _ _ _ _ _ s.requires.1.0 (node_low s) c.loop-j.invariant (more c)
 
 place : (c : tie.In-loop-j invariant-loop-j decreases-loop-j)
     → c.places-rev.result + c.loop-j.j < length (entry c).args.graph.now
@@ -170,7 +170,7 @@ kill-requires c κs =
     let state = s.requires.1.1 in
     let inv = t.loop-j.invariant in
     let dies =
-    taking-fails _ _ _ _ _ s.requires.0 _ _ _ _ _ _ s.requires.1.0 (node_low s) inv (more t.before.before.before.before.before) state.0 state.1
+    taking_fails _ _ _ _ _ s.requires.0 _ _ _ _ _ _ s.requires.1.0 (node_low s) inv (more t.before.before.before.before.before) state.0 state.1
     state.2 in
     (s.requires.0, (_, _, state.0, state.1, inv.state state.0 state.1 state.2, rw (← group_is t.before.before.before.before.before) at dies))
 
@@ -190,7 +190,7 @@ loop-again c =
     let t = turned k.before.before.before.before.before.before.before.before in
     let s = entry t in
     let kept = k.kill-tail.auto in
-    taking-more _ _ _ _ _ s.requires.0 _ _ _ _ _ _ s.requires.1.0 (node_low s) t.loop-j.invariant (more t)
+    taking_more _ _ _ _ _ s.requires.0 _ _ _ _ _ _ s.requires.1.0 (node_low s) t.loop-j.invariant (more t)
     kept.member kept.live kept.dead kept.list k.kill-tail.ensures.1
     (rw (group_is t) at k.kill-tail.ensures.0)
 
@@ -211,7 +211,7 @@ returns c =
     let s = c in
     let left : get_or (starts_in s.args.graph.now s.args.game.nodes) (node s.before.before.before.before.before.before.before.before.before.before.before + 1) 0 ≤ c.loop-j.j =
     rw (last_is s.before.before.before.before.before.before.before.before.before.before.before) at c.loop-j-test.false in
-    taking-end _ _ _ _ _ s.requires.0 _ _ _ _ _ _ s.requires.1.0 (node_low s.before.before.before.before.before.before.before.before.before.before.before) c.loop-j.invariant left
+    taking_end _ _ _ _ _ s.requires.0 _ _ _ _ _ _ s.requires.1.0 (node_low s.before.before.before.before.before.before.before.before.before.before.before) c.loop-j.invariant left
 
 pub take_off_spec : {M : Type 1} → statement M
 take_off_spec =

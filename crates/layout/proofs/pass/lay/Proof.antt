@@ -11,7 +11,7 @@ use Rattle.format.proofs.Header.{PlantHead, plant_head, plant_states, plant_move
 use Rattle.layout.specs.Passing.{Room}
 use Rattle.layout.proofs.Passed.{Taken, pass_refused, pass_move, pass_fine, pass_end}
 use Rattle.layout.proofs.Storing.{PassedIn, start_in, group_place, end_place, state_place, small_in, count_in}
-use Rattle.layout.proofs.Storing.{again-in, same_in, room_same}
+use Rattle.layout.proofs.Storing.{again_in, same_in, room_same}
 use Rattle.layout.proofs.pass.lay.Statement.{statement}
 use Rattle.layout.proofs.pass.lay.Tie as tie
 
@@ -187,7 +187,7 @@ loop-again c =
       same.0 ∙ i.2,
       same.1 ∙ i.3,
       room_same i.4 same.0 same.1,
-      again-in i.4 i.5 t ok on new first group.0 group.1 last,
+      again_in i.4 i.5 t ok on new first group.0 group.1 last,
     )
 
 same-length-3 : tie.Need-shape_of-table invariant-loop-k decreases-loop-k

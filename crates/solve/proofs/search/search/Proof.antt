@@ -58,18 +58,18 @@ bounds_in c = laws.left_in (sought (entry c.before)) c.moves.invariant c.if-last
 -- and so does the move
 move_in : (c : tie.At-loop-at invariant-loop-at decreases-loop-at invariant-moves decreases-moves)
     → moves_at (start c).args.table.now + c.loop-at.g < length (start c).args.table.now
-move_in c = laws.ends-move-in (sought (start c)) c.loop-at.invariant.1
+move_in c = laws.ends_move_in (sought (start c)) c.loop-at.invariant.1
 
 -- and an end, which is a state
 end_in : (c : tie.Else-stop-at invariant-loop-at decreases-loop-at invariant-moves decreases-moves)
     → ends_at (start c.before).args.table.now + c.loop-at.at
     < length (start c.before).args.table.now
-end_in c = laws.ends-in (sought (start c.before)) c.loop-at.invariant.1 c.if-stop-at.false
+end_in c = laws.ends_in_lem (sought (start c.before)) c.loop-at.invariant.1 c.if-stop-at.false
 
 end_state : (c : tie.Else-stop-at invariant-loop-at decreases-loop-at invariant-moves decreases-moves)
     → let a = (start c.before).args in
     get_or a.table.now (ends_at a.table.now + c.loop-at.at) 0 < (plant_of a.plant.now).states
-end_state c = laws.ends-state (sought (start c.before)) c.loop-at.invariant.1 c.if-stop-at.false
+end_state c = laws.ends_state (sought (start c.before)) c.loop-at.invariant.1 c.if-stop-at.false
 
 sub-room : tie.Need-overflow_sub-room invariant-loop-at decreases-loop-at invariant-moves decreases-moves
 sub-room c = c.requires.0.table_is.long
@@ -134,7 +134,7 @@ cast-stop c = omega (arith, c.shared_slice_known-in-moves-2-1.given (1026 + c.mo
 loop-holds : tie.Need-loop-at-init invariant-loop-at decreases-loop-at invariant-moves decreases-moves
 loop-holds c =
     let g = c in
-    (refl, laws.left-ends (sought (entry g.before.before.before)) g.moves.invariant g.if-last-g.false)
+    (refl, laws.left_ends (sought (entry g.before.before.before)) g.moves.invariant g.if-last-g.false)
 
 add-found : tie.Need-overflow_add-found invariant-loop-at decreases-loop-at invariant-moves decreases-moves
 add-found c = omega (arith, move_in c.before)
@@ -171,7 +171,7 @@ add-g c = omega (arith, move_in c.before.before.before.before)
 moves-less : tie.Need-moves-smaller invariant-loop-at decreases-loop-at invariant-moves decreases-moves
 moves-less c =
     let l = c in
-    omega (arith, l.loop-at.invariant.0, laws.ends-before (sought (start l.before.before.before.before)) l.loop-at.invariant.1)
+    omega (arith, l.loop-at.invariant.0, laws.ends_before (sought (start l.before.before.before.before)) l.loop-at.invariant.1)
 
 moves_again : tie.Need-moves-preserved invariant-loop-at decreases-loop-at invariant-moves decreases-moves
 moves_again c =
@@ -179,7 +179,7 @@ moves_again c =
     let s = start e.before.before.before.before in
     let y = get_or s.args.table.now (ends_at s.args.table.now + e.loop-at.at) 0 in
     let high : s.args.limit ≤ get_or s.args.waits.now y 0 = omega (arith, c.if-limit-waits.true) in
-    laws.ends-fail (sought s) e.loop-at.invariant.1 e.if-stop-at.false
+    laws.ends_fail (sought s) e.loop-at.invariant.1 e.if-stop-at.false
     (laws.below_test s.args.waits.now s.args.limit _ y (end_state e.before.before.before) ∙ le-ltb _ _ high)
 
 add-at-2 : tie.Need-overflow_add-at-in-loop-at invariant-loop-at decreases-loop-at invariant-moves decreases-moves
@@ -195,7 +195,7 @@ loop-again c =
     let y = get_or s.args.table.now (ends_at s.args.table.now + e.loop-at.at) 0 in
     let low : get_or s.args.waits.now y 0 < s.args.limit = omega (arith, c.if-limit-waits.false) in (
       e.loop-at.invariant.0,
-      laws.ends-pass (sought s) e.loop-at.invariant.1 e.if-stop-at.false
+      laws.ends_pass (sought s) e.loop-at.invariant.1 e.if-stop-at.false
           (laws.below_test s.args.waits.now s.args.limit _ y (end_state e.before.before.before) ∙ lt-ltb _ _ low),
     )
 
@@ -217,7 +217,7 @@ returns-2 : tie.Need-returns-then-stop-at invariant-loop-at decreases-loop-at in
 returns-2 c =
     let e = c in
     let s = start e.before.before in
-    promised s (sym (laws.ends-all (sought s) e.loop-at.invariant.1 e.if-stop-at.true))
+    promised s (sym (laws.ends_all (sought s) e.loop-at.invariant.1 e.if-stop-at.true))
 
 pub search_spec : {M : Type 1} → statement M
 search_spec =
