@@ -39,7 +39,8 @@ pub(crate) fn kept(book: &[u8], list: &mut [u16]) -> usize
     let stages = staged(book);
     while 0 < x {
         x -= 1;
-        if !lost_in(book, stages, x as u32) {
+        let lost = lost_in(book, stages, x as u32);
+        if !lost {
             at -= 1;
             list[at] = x;
         }

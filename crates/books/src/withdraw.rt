@@ -55,7 +55,8 @@ pub(crate) fn carry_out(
         mask: left,
     };
     let length = writing::book(plant, index, way, &list[..kept], out);
-    if length == 0 {
+    let none = length == 0;
+    if none {
         return refused(number(plant, index, indexed, book, gone, room, drops.len()));
     }
     let count = writing::dropped(book, &out[..length as usize], drops);

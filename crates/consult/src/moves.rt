@@ -102,6 +102,7 @@ fn moves_into(plant: &[u8], book: &[u8], state: u32, goal: u32, early: bool) -> 
 // All moves that meet the rule of an entry, as a mask: those of the book's mask with an arrow in the state, all of
 // whose arrows end in states that the book keeps, of earlier stages if there is such a move; otherwise of no later one,
 // above wait 0 of an earlier stage or with a smaller wait. 0 for a lost state.
+#[tactic(auto, using(crate::proofs::Rule::good_lost, crate::proofs::Rule::good_plain, crate::proofs::Rule::good_early, crate::proofs::Rule::good_onward))]
 pub(crate) fn good(plant: &[u8], book: &[u8], state: u32, goal: u32) -> u32
     requires fine { plant_fault plant.now ≡ 0 }
     requires within { state < (plant_of plant.now).states }

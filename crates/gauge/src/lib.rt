@@ -215,6 +215,7 @@ fn steps_ok(kinds: &[u8], ends: &[f64], states: &[u32], limit: u32) -> bool
 }
 
 // Whether there are 1 to 64 bands, with two kinds and two ends for each.
+#[tactic(auto, using(crate::proofs::Tables::fit_none, crate::proofs::Tables::fit_many, crate::proofs::Tables::fit_long))]
 fn lists_fit(kinds: &[u8], ends: &[f64], states: &[u32]) -> bool
     ensures { result ≡ lists_fit kinds.now ends.now states.now }
 {
@@ -285,6 +286,7 @@ fn no_state(number: u8) -> Place
 
 // Takes a table of bands as three lists, S, and what the gauge shows. Answers the state of the band that holds the
 // deviation.
+#[tactic(auto, using(crate::proofs::Reals::compared, crate::proofs::Placed::placed, crate::proofs::Rounded::rounded, crate::proofs::Tables::table_fits, crate::proofs::Tables::eleven, crate::proofs::Tables::twelve, crate::proofs::Tables::gap, crate::proofs::Tables::band))]
 pub fn find_place(kinds: &[u8], ends: &[f64], states: &[u32], limit: u32, g: Gauge) -> Place
     ensures place_says { PlaceSays kinds.now ends.now states.now limit
         g.reading g.aim result }

@@ -27,6 +27,7 @@ fn end_at(plant: &[u8], n: u16) -> u16
 
 // The least key that the number after n may have; 0 if n is no arrow's number or its key is below the least. The place
 // where the first arrow's end stands is worked out before, and the plant has all its arrows.
+#[tactic(auto, using(crate::proofs::Passing::least_none, crate::proofs::Passing::least_low, crate::proofs::Passing::least_passed, crate::proofs::Passing::end_bytes))]
 fn least_next(plant: &[u8], ends: usize, count: usize, least: u64, n: u16) -> u64
     requires place { ends ≡ 20 + 2 * word 0 plant.now }
     requires long { 16 + 2 * word 0 plant.now + 6 * count ≤ length plant.now }

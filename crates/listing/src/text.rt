@@ -98,7 +98,8 @@ fn put_head(out: &mut [u8], book: &[u8]) -> usize
 {
     let kept = number(book, 3) as u32;
     let states = number(book, 0) as u32;
-    let in_service = u32::count_ones(mask(book));
+    let served = mask(book);
+    let in_service = u32::count_ones(served);
     let to_states = put_figure(out, 0, kept, b" of ");
     let to_moves = put_figure(out, to_states, states, b" kept, ");
     put_figure(out, to_moves, in_service, b" moves in service\n")

@@ -69,6 +69,7 @@ fn lent_index(plant: &[u8], index: &[u8]) -> u8
 }
 
 // What make by an index returns: 1, 2, 3, 10, 6, 7, or 0 when it is accepted.
+#[tactic(auto, using(crate::proofs::Refusals::by_given, crate::proofs::Refusals::by_passed))]
 pub fn make_by(plant: &[u8], index: &[u8], mask: u32, room: usize) -> u8
     ensures { result ≡ by_index plant.now index.now
         (make_fault plant.now mask room) }
@@ -145,6 +146,7 @@ pub fn withdraw(plant: &[u8], book: &[u8], gone: u32, room: usize, drops: usize)
 }
 
 // What withdraw by an index returns: 1, 2, 3, 10, 4 to 7, or 0 when it is accepted.
+#[tactic(auto, using(crate::proofs::Refusals::by_given, crate::proofs::Refusals::by_passed))]
 pub fn withdraw_by(
     plant: &[u8],
     index: &[u8],

@@ -67,7 +67,8 @@ pub fn book(plant: &[u8], index: &[u8], way: Way, start: &[u16], out: &mut [u8])
         plant.now way.mask start.now out.old }
 {
     let kept = solve(plant, index, way, start, out);
-    if kept == 65535 {
+    let refused = kept == 65535;
+    if refused {
         return 0;
     }
     head(plant, way.mask, kept as u16, out);

@@ -19,7 +19,7 @@ use Rattle.writing.proofs.book.Tie as tie
 abbrev entry : tie.After-solve-kept → tie.Start
 entry c = c.before.before.before.before.before.before
 
-abbrev solved : tie.Else-kept-eq65535 → tie.After-solve-kept
+abbrev solved : tie.Else-refused → tie.After-solve-kept
 solved c = c.before.before.before
 
 -- what is lent is good, and then the plant is accepted
@@ -27,15 +27,15 @@ abbrev good : tie.Start → Bool
 good s = let a = s.args in accepts a.way.indexed a.index.now a.plant.now
 
 -- past the test the book can be written
-can : (c : tie.Else-kept-eq65535)
+can : (c : tie.Else-refused)
     → let a = (entry (solved c)).args in
     writable (good (entry (solved c))) a.plant.now a.start.now a.out.now ≡ true
 can c =
     let a = (entry (solved c)).args in
-    has_solved (good (entry (solved c))) a.plant.now a.way.mask a.start.now a.out.now (accepts_fine _ _ _) (solved c).solve-kept.ensures.0 c.if-kept-eq65535.false
+    has_solved (good (entry (solved c))) a.plant.now a.way.mask a.start.now a.out.now (accepts_fine _ _ _) (solved c).solve-kept.ensures.0 c.if-refused.false
 
 -- so the plant is accepted
-accepted : (c : tie.Else-kept-eq65535) → plant_fault (entry (solved c)).args.plant.now ≡ 0
+accepted : (c : tie.Else-refused) → plant_fault (entry (solved c)).args.plant.now ≡ 0
 accepted c =
     let a = (entry (solved c)).args in
     accepts_fine _ _ _ (writable_fine (good (entry (solved c))) a.plant.now a.start.now a.out.now (can c))
@@ -43,15 +43,15 @@ accepted c =
 solve-requires : tie.Need-solve-kept-requires
 solve-requires c κs = search rules
 
-same_length : tie.Need-shape_of-out-then-kept-eq65535
+same_length : tie.Need-shape_of-out-then-refused
 same_length c = search rules
 
-returns : tie.Need-returns-then-kept-eq65535
+returns : tie.Need-returns-then-refused
 returns c =
     let v = c in
     let a = (entry v.before.before.before).args in
     mark_unwritten (good (entry v.before.before.before)) a.plant.now a.way.mask a.start.now a.out.now (accepts_fine _ _ _) v.solve-kept.ensures.0
-    v.solve-kept.ensures.1 c.if-kept-eq65535.true
+    v.solve-kept.ensures.1 c.if-refused.true
 
 cast-head : tie.Need-overflow_cast-kept
 cast-head c =

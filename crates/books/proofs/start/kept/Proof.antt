@@ -45,27 +45,27 @@ sub-x c = omega arith
 cast-lost-in : tie.Need-overflow_cast-x invariant-loop-x decreases-loop-x
 cast-lost-in c = omega (arith, c.loop-x.invariant)
 
-lost-in-requires : tie.Need-lost_in-requires invariant-loop-x decreases-loop-x
+lost-in-requires : tie.Need-lost_in-lost-requires invariant-loop-x decreases-loop-x
 lost-in-requires c κs = search rules
 
 -- whether the state is lost
-lost_here : (c : tie.After-lost_in invariant-loop-x decreases-loop-x)
+lost_here : (c : tie.After-lost_in-lost invariant-loop-x decreases-loop-x)
     → let l = c in
-    c.lost_in.result ≡ is_lost l.args.book.now (l.loop-x.x - 1)
+    c.lost_in-lost.result ≡ is_lost l.args.book.now (l.loop-x.x - 1)
 lost_here c =
     let l = c in
     lost_known l.args.book.now (l.loop-x.x - 1) _ _
-    l.staged-stages.ensures c.lost_in.ensures
+    l.staged-stages.ensures c.lost_in-lost.ensures
 
 -- the book keeps the state: there is a place for it
-place : (c : tie.Then-not-lost_in invariant-loop-x decreases-loop-x)
+place : (c : tie.Then-not-lost invariant-loop-x decreases-loop-x)
     → let l = c.loop-x in
     let list = c.args.list.now in
     (0 < l.at) × (l.at ≤ length list)
 place c =
     let l = c.loop-x in
     fill_place _ _ _ _ l.x l.at (l.x - 1) l.invariant (omega arith)
-    (ap not (sym (lost_here c.before)) ∙ c.if-not-lost_in.true-raw)
+    (ap not (sym (lost_here c.before)) ∙ ap not c.if-not-lost.true)
 
 sub_at : tie.Need-overflow_sub-at invariant-loop-x decreases-loop-x
 sub_at c = (place c).0
@@ -76,14 +76,14 @@ mul-list c = omega (arith, place c)
 slice-write-list : tie.Need-bounds-list-at invariant-loop-x decreases-loop-x
 slice-write-list c = omega (arith, place c)
 
-loop-less : tie.Need-loop-x-smaller-then-not-lost_in invariant-loop-x decreases-loop-x
+loop-less : tie.Need-loop-x-smaller-then-not-lost invariant-loop-x decreases-loop-x
 loop-less c = omega arith
 
-loop-again : tie.Need-loop-x-preserved-then-not-lost_in invariant-loop-x decreases-loop-x
+loop-again : tie.Need-loop-x-preserved-then-not-lost invariant-loop-x decreases-loop-x
 loop-again c =
     let l = c.loop-x in
     fill_yes _ _ _ _ l.x l.at (l.x - 1) l.invariant (omega arith)
-    (ap not (sym (lost_here c.before)) ∙ c.if-not-lost_in.true-raw)
+    (ap not (sym (lost_here c.before)) ∙ ap not c.if-not-lost.true)
 
 loop-less-2 : tie.Need-loop-x-smaller invariant-loop-x decreases-loop-x
 loop-less-2 c = omega arith
@@ -92,7 +92,7 @@ loop-again-2 : tie.Need-loop-x-preserved invariant-loop-x decreases-loop-x
 loop-again-2 c =
     let l = c.loop-x in
     fill_no _ _ _ _ l.x l.at (l.x - 1) l.invariant (omega arith)
-    (ap not (sym (lost_here c.before)) ∙ c.if-not-lost_in.false-raw)
+    (ap not (sym (lost_here c.before)) ∙ ap not c.if-not-lost.false)
 
 same_length : tie.Need-shape_of-list invariant-loop-x decreases-loop-x
 same_length c = c.loop-x.invariant.size

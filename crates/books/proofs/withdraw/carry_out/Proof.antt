@@ -106,10 +106,10 @@ number-requires c κs = search rules
 refused-requires : tie.Need-refused-requires
 refused-requires c κs = search rules
 
-same_length : tie.Need-shape_of-out-then-length-eq0
+same_length : tie.Need-shape_of-out-then-none
 same_length c = search rules
 
-returns : tie.Need-returns-then-length-eq0
+returns : tie.Need-returns-then-none
 returns c =
     let n = c in
     let e = n in
@@ -119,7 +119,7 @@ returns c =
     let a = s.args in
     withdraw_none a.indexed a.index.now a.plant.now a.book.now a.gone a.out.now
     a.drops.now _ s.requires w.0 w.1 _
-    e.if-length-eq0.true c.refused.ensures n.number.ensures
+    e.if-none.true c.refused.ensures n.number.ensures
 
 cast-dropped : tie.Need-overflow_cast-length
 cast-dropped c = search rules
@@ -153,7 +153,7 @@ returns-2 c =
     let a = s.args in
     withdraw_done a.indexed a.index.now a.plant.now a.book.now a.gone a.out.now
     a.drops.now _ s.requires w.0 w.1
-    e.if-length-eq0.false d.dropped-count.ensures.0 d.dropped-count.ensures.1
+    e.if-none.false d.dropped-count.ensures.0 d.dropped-count.ensures.1
 
 pub carry_out_spec : {M : Type 1} → statement M
 carry_out_spec =

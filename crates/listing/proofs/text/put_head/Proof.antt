@@ -23,7 +23,7 @@ number-requires-2 c κs = search rules
 cast-states : tie.Need-overflow_cast-states
 cast-states c = search rules
 
-mask-requires : tie.Need-mask-in_service-requires
+mask-requires : tie.Need-mask-served-requires
 mask-requires c κs = search rules
 
 returns : tie.Need-returns
@@ -32,17 +32,17 @@ returns c =
     let second = c in
     let first = second in
     let read = first in
-    rw (← read.number-kept.ensures, ← read.number-states.ensures, ← read.mask-in_service.ensures)
+    rw (← read.number-kept.ensures, ← read.number-states.ensures, ← read.mask-served.ensures)
     (wrote_then first.put_figure-to_states.ensures
     (wrote_then second.put_figure-to_moves.ensures c.put_figure.ensures))
 
 -- the place after the three figures is a usize
-room : (c : tie.After-mask-in_service) → length (figure c.number-kept.result of_text)
+room : (c : tie.After-mask-served) → length (figure c.number-kept.result of_text)
     + (length (figure c.number-states.result kept_text)
-    + length (figure (ones c.mask-in_service.result) moves_text)) < 2 ^ 64
+    + length (figure (ones c.mask-served.result) moves_text)) < 2 ^ 64
 unfolding book_count book_states
 room c =
-    rw (c.number-kept.ensures, c.number-states.ensures, c.mask-in_service.ensures)
+    rw (c.number-kept.ensures, c.number-states.ensures, c.mask-served.ensures)
     (rw head_long at c.requires)
 
 put-figure-requires : tie.Need-put_figure-to_states-requires
