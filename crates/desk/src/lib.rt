@@ -61,7 +61,6 @@ pub fn start_desk(plant: &[u8], book: &[u8], state: u32) -> Desk
 }
 
 // Is told which state followed the move given in the state held.
-#[tactic(auto, using(crate::proofs::Answers::report_none, crate::proofs::Answers::report_strays, crate::proofs::Answers::report_shown, crate::proofs::Sessions::of_desk))]
 pub fn report_state(plant: &[u8], book: &[u8], state: u32, goal: u32, reported: u32) -> Desk
     ensures report_says { ReportSays plant.now book.now state goal reported result }
     ensures report_answering { Answering }
@@ -76,7 +75,8 @@ pub fn report_state(plant: &[u8], book: &[u8], state: u32, goal: u32, reported: 
             goal,
         };
     }
-    if !step.leads {
+    let leads = step.leads;
+    if !leads {
         let none = refused(13);
         return Desk {
             advice: none,
