@@ -19,4 +19,4 @@ if grep -E '^rt: must-fail .*: refused, .*(\(only b|declarations? that depend)' 
     echo "edits: refused for a missing name, or by a limit, as told above"
     exit 1
 fi
-echo "edits: ${#edits[@]} are refused, $told of them in this run, none for a missing name"
+echo "edits: ${#edits[@]} are refused; of the $told tried in this run none for a missing name"

@@ -1,7 +1,7 @@
 #!/bin/bash
 # Runs the program `planbook` on plants and masks that are packed here, and compares what it prints with what document
-# 01 says, or with a small solver written for this test alone. Exits with 1 on any difference. Run it after `./run`, which builds the program;
-# the program may be given as the first argument.
+# 01 says, or with a small solver written for this test alone. Exits with 1 on any difference. Run it after `./run`,
+# which builds the program; the program may be given as the first argument.
 set -u
 cd "$(dirname "$0")/.." || exit 1
 exec python3 - "${1:-target/bin/planbook}" <<'PYTHON'

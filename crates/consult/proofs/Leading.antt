@@ -82,13 +82,13 @@ module _ (s : List ℕ) (x u y : ℕ) where
     pub leads_none : word 3 s ≤ k → false ≡ is_in y (ends (plant_of s) x u)
     leads_none l = sym (left_first ∙ left_end k l)
 
-    module _ (fine : plant_fault s ≡ 0) (more : k < word 3 s) (move-low : u < 65536) (end_low : y < 65536) where
+    module _ (fine : plant_fault s ≡ 0) (more : k < word 3 s) (move_low : u < 65536) (end_low : y < 65536) where
       found : rank_in s k ≡ Rank → Left k ≡ true
       found e =
           let low = arrow_low s fine k more in
           let a = arrow_in s k in
-          let from : a.from ≡ x = omega (arith, e, low.0, low.1, move-low, end_low) in
-          let move : a.action ≡ u = omega (arith, e, low.0, low.1, move-low, end_low, from) in
+          let from : a.from ≡ x = omega (arith, e, low.0, low.1, move_low, end_low) in
+          let move : a.action ≡ u = omega (arith, e, low.0, low.1, move_low, end_low, from) in
           let to : y ≡ a.to = omega (arith, e, from, move) in
           left_next k more ∙ rw (eq-eqb _ _ from, eq-eqb _ _ move, eq-eqb _ _ to) refl
 

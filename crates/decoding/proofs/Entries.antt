@@ -64,7 +64,7 @@ module _ (p : Plant) (mask : ℕ) (kept : List ℕ) where
       let more = joined (p.goals - suc i) (suc i) (entry_of p mask kept x) in
       let entry : drop (i * 4) entries ≡ entry_of p mask kept x i ++ more =
       rw zero-add at (joined_drop (entry_of p mask kept x) 4 (entry_length p mask kept x) p.goals 0 i hi) in
-      let after-stage : drop (o + i * 4) (row_of p mask kept x) ≡ drop (i * 4) entries =
+      let after_stage : drop (o + i * 4) (row_of p mask kept x) ≡ drop (i * 4) entries =
       rw (← stage_length p mask kept x) (drop-append-add (stage_part p mask kept x) entries (i * 4)) in
       let inside : o + i * 4 ≤ length (row_of p mask kept x) = omega (arith, row_length p mask kept x) in (
         more ++ below x,
@@ -76,7 +76,7 @@ module _ (p : Plant) (mask : ℕ) (kept : List ℕ) where
           ← drop-drop,
           row_there x hx,
           drop-append-le (o + i * 4),
-          after-stage,
+          after_stage,
           entry,
           append_assoc,
         ),
@@ -134,8 +134,8 @@ unfolding is_lost
 lost_marks b x i h hi =
     let marked : ℕ → Bool = λ i. eqb (wait_at b x i) lost_mark && eqb (move_at b x i) lost_mark in
     let here = every_at (book_goals b) 0 marked (and_right (stage_lost b x) _ h) i (omega arith) (omega arith) in
-    let wait-mark = and_left (eqb (wait_at b x i) lost_mark) _ here in
-    let move-mark = and_right (eqb (wait_at b x i) lost_mark) _ here in
+    let wait_mark = and_left (eqb (wait_at b x i) lost_mark) _ here in
+    let move_mark = and_right (eqb (wait_at b x i) lost_mark) _ here in
     omega (arith, eqb-true)
 
 -- and its stage, where there are stages

@@ -98,16 +98,16 @@ pub arrow_range : (arrows : List Arrow) (s u least x v y : ℕ) → arrows_ok s 
 unfolding arrows_ok ends_in
 arrow_range [] s u least x v y ok h = absurd (is_in_none y h)
 arrow_range (a ∷ rest) s u least x v y ok h =
-    let from-ok = and_left (ltb a.from s) _ ok in
-    let after-from = and_right (ltb a.from s) _ ok in
-    let move-ok = and_left (ltb a.move u) _ after-from in
-    let after-move = and_right (ltb a.move u) _ after-from in
-    let to-ok = and_left (ltb a.to s) _ after-move in
-    let after-to = and_right (ltb a.to s) _ after-move in
-    let rest_ok = and_right (leb least (rank a)) _ after-to in
+    let from_ok = and_left (ltb a.from s) _ ok in
+    let after_from = and_right (ltb a.from s) _ ok in
+    let move_ok = and_left (ltb a.move u) _ after_from in
+    let after_move = and_right (ltb a.move u) _ after_from in
+    let to_ok = and_left (ltb a.to s) _ after_move in
+    let after_to = and_right (ltb a.to s) _ after_move in
+    let rest_ok = and_right (leb least (rank a)) _ after_to in
     elim (is_in_cons_if (eqb a.from x && eqb a.move v) y a.to (ends_in rest x v) h) [
       | inl e ↦
-          let is-from = and_left (eqb a.from x) _ e.1 in
+          let is_from = and_left (eqb a.from x) _ e.1 in
           let is_move = and_right (eqb a.from x) _ e.1 in
           let to_is = e.0 in
           omega (arith, ltb-true, eqb-true)
@@ -200,19 +200,19 @@ lent_ok s b h =
     let later = (first_iff (when (not (book_head_ok b && alike p b)) 4) _).0 all.1 in
     let same = and_right (book_head_ok b) (alike p b) ((when_iff (book_head_ok b && alike p b) 3).0 later.0) in
     let sizes = simp and_iff at same in
-    let moves-same : book_moves b ≡ p.moves = omega (arith, eqb-true) in
-    let states-same : book_states b ≡ p.states = omega (arith, eqb-true) in
-    let goals-same : book_goals b ≡ p.goals = omega (arith, eqb-true) in
-    let total-same : book_total b ≡ book_long p.settles p.states p.goals = omega (arith, eqb-true) in
-    let some-state : 0 < book_states b = (book_ok b later.1).sizes.states_least in
+    let moves_same : book_moves b ≡ p.moves = omega (arith, eqb-true) in
+    let states_same : book_states b ≡ p.states = omega (arith, eqb-true) in
+    let goals_same : book_goals b ≡ p.goals = omega (arith, eqb-true) in
+    let total_same : book_total b ≡ book_long p.settles p.states p.goals = omega (arith, eqb-true) in
+    let some_state : 0 < book_states b = (book_ok b later.1).sizes.states_least in
     record {
       plant = all.0;
       book = later.1;
-      states = states-same;
-      moves = moves-same;
-      goals = goals-same;
-      sort = staged_of b p.settles (rw (states-same, goals-same) total-same) some-state;
-      mask_ok_lem = rw moves-same at (book_ok b later.1).mask_ok_lem;
+      states = states_same;
+      moves = moves_same;
+      goals = goals_same;
+      sort = staged_of b p.settles (rw (states_same, goals_same) total_same) some_state;
+      mask_ok_lem = rw moves_same at (book_ok b later.1).mask_ok_lem;
     }
 
 -- what it takes for that

@@ -96,10 +96,10 @@ make_low s mask room =
 lent_low : (s b : List ℕ) → lent_fault s b ≤ 7
 unfolding lent_fault book_fault
 lent_low s b =
-    let alike-low = when_most (not (book_head_ok b && alike (plant_of s) b)) 4 (omega arith) in
+    let alike_low = when_most (not (book_head_ok b && alike (plant_of s) b)) 4 (omega arith) in
     let head = when_most (not (book_head_ok b)) 4 (omega arith) in
     let rows = when_most (not (rows_ok b)) 5 (omega arith) in
-    first_most _ _ (plant_low s) (first_most _ _ alike-low (first_most _ _ head rows))
+    first_most _ _ (plant_low s) (first_most _ _ alike_low (first_most _ _ head rows))
 
 pub withdraw_low : (s b : List ℕ) (gone room drops : ℕ) → withdraw_fault s b gone room drops ≤ 7
 unfolding withdraw_fault room_fault

@@ -141,11 +141,11 @@ to_low : (rs : List Arrow) (s u least : ℕ) → arrows_ok s u least rs ≡ true
 unfolding arrows_ok
 to_low [] s u least ok e l = absurd (omega arith)
 to_low (a ∷ rest) s u least ok zero l =
-    let after-move = and_right (ltb a.move u) _ (and_right (ltb a.from s) _ ok) in
-    ltb-true a.to s (and_left (ltb a.to s) _ after-move)
+    let after_move = and_right (ltb a.move u) _ (and_right (ltb a.from s) _ ok) in
+    ltb-true a.to s (and_left (ltb a.to s) _ after_move)
 to_low (a ∷ rest) s u least ok (suc e) l =
-    let after-move = and_right (ltb a.move u) _ (and_right (ltb a.from s) _ ok) in
-    let later = and_right (leb least (rank a)) _ (and_right (ltb a.to s) _ after-move) in
+    let after_move = and_right (ltb a.move u) _ (and_right (ltb a.from s) _ ok) in
+    let later = and_right (leb least (rank a)) _ (and_right (ltb a.to s) _ after_move) in
     to_low rest s u (suc (rank a)) later e (omega arith)
 
 -- what an accepted plant gives: few arrows, and every one ends in a state

@@ -162,9 +162,9 @@ module _ (b c : List ℕ) (t : Bool) (s n : ℕ) (alike : ReadAlike b c t s n) w
             let q = j - 8 in
             let few : q < s * w =
             omega (arith, hj, alike.long_b, long_words t s n) in
-            let w-positive : 0 < w = positive s w q few in
-            let hx : q / w < s = (div-lt_iff_lt-mul w-positive).1 few in
-            let hk : q % w < w = mod-lt q w-positive in
+            let w_positive : 0 < w = positive s w q few in
+            let hx : q / w < s = (div-lt_iff_lt-mul w_positive).1 few in
+            let hk : q % w < w = mod-lt q w_positive in
             let place : 8 + (q / w * w + q % w) ≡ j = rw div-add-mod' (omega arith) in
             subst (λ (m : ℕ). word m b ≡ word m c) place (row_word (q / w) (q % w) hx hk)
       ]

@@ -127,8 +127,8 @@ module _ {p : Plant} {mask : ℕ} {within : ℕ → Bool} (given : Given p mask 
 
   -- and no other list of bytes is
   pub no_other : (other : List ℕ) → IsBook p mask (Within within) other → other ≡ book_within p mask within
-  no_other other is-other =
-      one_book p mask (Within within) given.below other (book_within p mask within) is-other is_book
+  no_other other is_other =
+      one_book p mask (Within within) given.below other (book_within p mask within) is_other is_book
       given.plant.sizes.states_least
 
   -- so that being that book is being those bytes

@@ -69,8 +69,8 @@ module _ (s : List ℕ) (accepted : plant_fault s ≡ 0) where
           writes_afresh = returned_afresh (plant_of s) (plant_ok s accepted) mask ok back;
           puts_moves = λ room drops e.
               let b = made_book (plant_of s) mask in
-              let back-ok = (withdraw_ok s b back room drops (return_told s b room drops made_lent back ∙ e)).gone_ok in
-              or_ok (plant_of s).moves mask back ∙ and_true ok back-ok;
+              let back_ok = (withdraw_ok s b back room drops (return_told s b room drops made_lent back ∙ e)).gone_ok in
+              or_ok (plant_of s).moves mask back ∙ and_true ok back_ok;
         }
     lawful (makes_by index new) =
         record {
@@ -163,11 +163,11 @@ demand_3 =
       told_alone = λ s mask room calls h.
           let ok = make_ok s mask room h in
           answers_told s ok.plant mask calls ok.mask_ok_lem;
-      equal_books = λ s mask room other-mask other_room calls other-calls h g.
+      equal_books = λ s mask room other_mask other_room calls other_calls h g.
           let p = plant_of s in
           let one = afresh s mask room calls h in
-          let two = afresh s other-mask other_room other-calls g in (
-            λ e. made_same p (in_service p mask calls) (in_service p other-mask other-calls) (sym one ∙ e ∙ two),
+          let two = afresh s other_mask other_room other_calls g in (
+            λ e. made_same p (in_service p mask calls) (in_service p other_mask other_calls) (sym one ∙ e ∙ two),
             λ e. one ∙ ap (made_book p) e ∙ sym two,
           );
     }

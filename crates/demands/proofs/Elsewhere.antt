@@ -131,18 +131,18 @@ elsewhere =
           ⊎_elim (λ same. same) (λ far. absurd (far r))
           (each y (reach_below (plant_of s) mask x (given_made s mask both.room both.made).plant l r)))
           itself;
-      after_calls = λ s t mask room other-mask other_room x calls other-calls fine other-fine figures same l agree.
+      after_calls = λ s t mask room other_mask other_room x calls other_calls fine other_fine figures same l agree.
           let p = plant_of s in
           let q = plant_of t in
-          let now-in = in_service p mask calls in
-          let other : Given q now-in (allowed q) =
-          subst (λ (n : ℕ). Given q n (allowed q)) (sym same) (after t other-mask other_room other-calls other-fine) in
+          let now_in = in_service p mask calls in
+          let other : Given q now_in (allowed q) =
+          subst (λ (n : ℕ). Given q n (allowed q)) (sym same) (after t other_mask other_room other_calls other_fine) in
           rw (
             demand_3.as_afresh s mask room calls fine,
-            demand_3.as_afresh t other-mask other_room other-calls other-fine,
+            demand_3.as_afresh t other_mask other_room other_calls other_fine,
             ← same,
           )
-          (rows_are p q now-in x x (after s mask room calls fine) other figures l agree itself);
+          (rows_are p q now_in x x (after s mask room calls fine) other figures l agree itself);
     }
   where
     -- what lists of calls leave in service is a mask of the plant's moves

@@ -61,11 +61,11 @@ pub given_before : (s b : List ℕ) (gone : ℕ) → LentOk s b
     → Given (plant_of s) (less_mask (book_mask b) gone) (kept_before (plant_of s) b)
 given_before s b gone ok =
     let p = plant_of s in
-    let plant-is-ok = plant_ok s ok.plant in
+    let plant_is_ok = plant_ok s ok.plant in
     record {
-      plant = plant-is-ok;
+      plant = plant_is_ok;
       mask_ok_lem = less_ok p.moves (book_mask b) gone ok.mask_ok_lem;
-      below = λ x w. allowed_below p plant-is-ok x (before_allowed p b x w);
+      below = λ x w. allowed_below p plant_is_ok x (before_allowed p b x w);
     }
 
 -- an accepted withdrawal

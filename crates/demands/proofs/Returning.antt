@@ -56,14 +56,14 @@ module _ (s : List ℕ) (mask room : ℕ) (h : make_fault s mask room ≡ 0) whe
       let ok = make_ok s mask room h in
       returned_afresh (plant_of s) (plant_ok s ok.plant) mask ok.mask_ok_lem back
 
-  module _ (back next-room gained : ℕ) (g : return_fault s Before back next-room gained ≡ 0) where
+  module _ (back next_room gained : ℕ) (g : return_fault s Before back next_room gained ≡ 0) where
     -- its mask is read back
     mask_is : book_mask Before ≡ mask
     mask_is = (demand_2.made s mask room h).is_book.mask_is
 
     -- a making with both is accepted
-    next : make_fault s (bit_or mask back) next-room ≡ 0
-    next = rw mask_is at (return_make s Before back next-room gained g)
+    next : make_fault s (bit_or mask back) next_room ≡ 0
+    next = rw mask_is at (return_make s Before back next_room gained g)
 
     -- and keeps what it keeps
     still_kept : (x : ℕ) → x < (plant_of s).states → is_lost Before x ≡ false
@@ -76,7 +76,7 @@ module _ (s : List ℕ) (mask room : ℕ) (h : make_fault s mask room ≡ 0) whe
         kept_more p mask (bit_or mask back) (allowed p) (allowed p) (some_goal (given_made s mask room h))
         (λ u e. (or_names mask back u).1 (inl e)) (λ y e. e) x before in
         ap (λ b. is_lost b x) (returned back)
-        ∙ (lost_kept (given_made s (bit_or mask back) next-room next) x hx).1 now
+        ∙ (lost_kept (given_made s (bit_or mask back) next_room next) x hx).1 now
 
     adds_up :
         let after = returned_book (plant_of s) Before back in
@@ -84,7 +84,7 @@ module _ (s : List ℕ) (mask room : ℕ) (h : make_fault s mask room ≡ 0) whe
     adds_up =
         let after = returned_book (plant_of s) Before back in
         let one = (demand_2.made s mask room h).is_book in
-        let two = (returned_right s Before back next-room gained g).is_book in
+        let two = (returned_right s Before back next_room gained g).is_book in
         let parts =
         parts_add_up after Before (two.states ∙ sym one.states)
         (λ x hx e. still_kept x (omega (arith, hx, two.states)) e) in
@@ -117,7 +117,7 @@ returning =
       right = returned_right;
       gained = gained_iff;
       rising = λ b after. rw (gained_dropped b after) (dropped_rising after b);
-      still_kept = λ s mask room back next-room gained h g. still_kept s mask room h back next-room gained g;
-      adds_up = λ s mask room back next-room gained h g. adds_up s mask room h back next-room gained g;
+      still_kept = λ s mask room back next_room gained h g. still_kept s mask room h back next_room gained g;
+      adds_up = λ s mask room back next_room gained h g. adds_up s mask room h back next_room gained g;
       undone = λ s mask room gone h e. undone s mask room h gone e;
     }

@@ -68,8 +68,8 @@ module _ {p : Plant} {mask : ℕ} {within : ℕ → Bool} (given : Given p mask 
       rule_leave : p.settles ≡ true → S.exits x ≡ true → rule_in p B x i ≡ earlier_in B x
       unfolding rule_in
       rule_leave e l =
-          let can-go : can p (book_mask B) (earlier_in B x) x ≡ true = rw (book_mask_lem given, earlier_is) ((sound given x hx).leads x l) in
-          rw (book_sort given ∙ e, can-go) refl
+          let can_go : can p (book_mask B) (earlier_in B x) x ≡ true = rw (book_mask_lem given, earlier_is) ((sound given x hx).leads x l) in
+          rw (book_sort given ∙ e, can_go) refl
 
       rule_onward : p.settles ≡ true → S.exits x ≡ false → rule_in p B x i ≡ onward_in B x i
       unfolding rule_in

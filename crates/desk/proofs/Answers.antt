@@ -113,11 +113,11 @@ module _ {s b : List ℕ} {x i y : ℕ} {r : Stepped} (told : StepSays s b x i y
   pub report_none : (r.next.number ≡ 0 → ⊥) →
       ReportSays s b x i y (record { advice = r.next; state = x; goal = i })
   report_none h =
-      let not-fine : step_fault s b x i y ≡ 0 → ⊥ = λ z. h (told.next.number ∙ z) in
-      let same = fault_before s b x i y not-fine in
-      let no : eqb (report_fault s b x i y) 0 ≡ false = ne_eqb _ _ (λ z. not-fine (sym same ∙ z)) in
+      let not_fine : step_fault s b x i y ≡ 0 → ⊥ = λ z. h (told.next.number ∙ z) in
+      let same = fault_before s b x i y not_fine in
+      let no : eqb (report_fault s b x i y) 0 ≡ false = ne_eqb _ _ (λ z. not_fine (sym same ∙ z)) in
       record {
-        shows = silent_advises (sym same) (λ z. not-fine (sym same ∙ z)) (advises_silent not-fine told.next);
+        shows = silent_advises (sym same) (λ z. not_fine (sym same ∙ z)) (advises_silent not_fine told.next);
         state = rw no refl;
         goal = rw no refl;
       }

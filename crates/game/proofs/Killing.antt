@@ -180,8 +180,8 @@ module _ (graph : List ℕ) (n groups positions goals : ℕ) (ready : Ready grap
           in_set : is_in f xs ≡ true
           in_set = (without_holds f (take tail list) xs waits_in).0
 
-          pub push-new : is_in f (take tail list) ≡ false
-          push-new = (without_holds f (take tail list) xs waits_in).1
+          pub push_new : is_in f (take tail list) ≡ false
+          push_new = (without_holds f (take tail list) xs waits_in).1
 
           -- so there is room for it
           one_less : (gone : List ℕ)
@@ -194,8 +194,8 @@ module _ (graph : List ℕ) (n groups positions goals : ℕ) (ready : Ready grap
               (λ y l q. rw (e y, ne_eqb y f q) (and_on (is_in y rest))) in
               omega (arith, flip, without_count n (take tail list) xs c.sifted, without_count n gone xs c.sifted)
 
-          pub push-room : tail < length list
-          push-room =
+          pub push_room : tail < length list
+          push_room =
               omega (
                 arith,
                 c.number,
@@ -227,56 +227,56 @@ module _ (graph : List ℕ) (n groups positions goals : ℕ) (ready : Ready grap
             abbrev list' : List ℕ
             list' = set list tail f
 
-            new-marks : Marks gs starts rev after (λ x. is_in x (without (take (tail + 1) list') xs))
+            new_marks : Marks gs starts rev after (λ x. is_in x (without (take (tail + 1) list') xs))
                 (set member f 65535) live' dead'
-            new-marks =
+            new_marks =
                 let un =
                 unmark gs starts rev after (λ x. is_in x rest) (set member f 65535) live' dead'
                 last_marks f kill_node in
                 other_tests gs starts rev after after
                 (λ y. is_in y rest && not (eqb y f))
                 (λ y. is_in y (without (take (tail + 1) list') xs)) (set member f 65535) live' dead' (λ i l. refl)
-                (λ y. sym (pushed_without list tail f push-room xs y))
+                (λ y. sym (pushed_without list tail f push_room xs y))
                 (subst
                 (λ (l : List ℕ).
                 Marks gs starts rev after (λ y. is_in y rest && not (eqb y f)) l live' dead')
                 (set-set member f 65535 65535) un)
 
-            own-place : get_or list' tail 0 ≡ f
-            own-place = get_or-set_same list tail f 0 push-room
+            own_place : get_or list' tail 0 ≡ f
+            own_place = get_or-set_same list tail f 0 push_room
 
-            old-place : (i : ℕ) → i < tail → get_or list' i 0 ≡ get_or list i 0
-            old-place i l = get_or-set_other list tail i f 0 (λ q. omega arith)
+            old_place : (i : ℕ) → i < tail → get_or list' i 0 ≡ get_or list i 0
+            old_place i l = get_or-set_other list tail i f 0 (λ q. omega arith)
 
             new_once : (i : ℕ) → i < tail + 1 → is_in (get_or list' i 0) (take i list') ≡ false
             new_once =
                 below_more (λ (i : ℕ). is_in (get_or list' i 0) (take i list') ≡ false) tail
-                (λ i l. let k : i ≤ tail = omega arith in rw (old-place i l, take-set-le i list tail f) (c.once i l))
-                (let k : tail ≤ tail = omega arith in rw (own-place, take-set-le tail list tail f) push-new)
+                (λ i l. let k : i ≤ tail = omega arith in rw (old_place i l, take-set-le i list tail f) (c.once i l))
+                (let k : tail ≤ tail = omega arith in rw (own_place, take-set-le tail list tail f) push_new)
 
             -- it goes on the list
-            pub kill-push : Draining graph n groups positions after xs first (set member f 65535) live' dead' list'
+            pub kill_push : Draining graph n groups positions after xs first (set member f 65535) live' dead' list'
                 (tail + 1)
-            kill-push =
+            kill_push =
                 record {
-                  marks = new-marks;
+                  marks = new_marks;
                   sifted = c.sifted;
                   room = rw (length-set list tail f) c.room;
                   inside =
                       below_more (λ (i : ℕ). is_in (get_or list' i 0) xs ≡ true) tail
-                      (λ i l. rw (old-place i l) (c.inside i l)) (rw own-place in_set);
+                      (λ i l. rw (old_place i l) (c.inside i l)) (rw own_place in_set);
                   once = new_once;
                   number =
                       omega (
                         arith,
                         c.number,
-                        one_less (take (tail + 1) list') (pushed_without list tail f push-room xs),
+                        one_less (take (tail + 1) list') (pushed_without list tail f push_room xs),
                       );
                   from = omega (arith, c.from);
                   front = take-set-le (length first) list tail f c.from ∙ c.front;
                   others = λ x a b.
                       let both =
-                      or_neither (is_in x (take tail list)) (eqb x f) (sym (pushed_in list tail f push-room x) ∙ b) in
+                      or_neither (is_in x (take tail list)) (eqb x f) (sym (pushed_in list tail f push_room x) ∙ b) in
                       let other : x ≡ f → ⊥ = λ q. not_both (eq-eqb x f q) both.1 in
                       rw (live_else x other) (c.others x a both.0);
                   spares = λ part within goes x m.
@@ -285,5 +285,5 @@ module _ (graph : List ℕ) (n groups positions goals : ℕ) (ready : Ready grap
                       apart_from part
                       (λ y k. (without_holds y first xs (within y k)).0) goes free
                       x m in
-                      pushed_in list tail f push-room x ∙ rw (free x m, ne_eqb x f out);
+                      pushed_in list tail f push_room x ∙ rw (free x m, ne_eqb x f out);
                 }

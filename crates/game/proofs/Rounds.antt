@@ -134,7 +134,7 @@ module _ (can : Can) (done : ℕ → Bool) (goal : ℕ → ℕ → Bool) where
       }
 
   -- a goal whose targets are as many after a round as before is reached as before
-  module _ (n : ℕ) (old new : List ℕ) (set : Sifted (numbers n 0) old) (new-set : Sifted (numbers n 0) new)
+  module _ (n : ℕ) (old new : List ℕ) (set : Sifted (numbers n 0) old) (new_set : Sifted (numbers n 0) new)
       (left : Leaves can old new)
       (more : (ys zs : List ℕ) (x : ℕ) → Sub ys zs → can ys x ≡ true → can zs x ≡ true)
       (nothing : (x : ℕ) → can [] x ≡ false) (i : ℕ) where
@@ -148,7 +148,7 @@ module _ (can : Can) (done : ℕ → Bool) (goal : ℕ → ℕ → Bool) where
     unfolding aims
     aims_same e =
         sifted_as_long (numbers n 0) (aims can done (goal i) new) (aims can done (goal i) old)
-        (sifted_sub (λ x. done x || (goal i x && can new x)) (numbers n 0) new new-set)
+        (sifted_sub (λ x. done x || (goal i x && can new x)) (numbers n 0) new new_set)
         (sifted_sub (λ x. done x || (goal i x && can old x)) (numbers n 0) old set)
         (λ x m.
         let r = filter_holds (λ y. done y || (goal i y && can new y)) new x m in
@@ -163,7 +163,7 @@ module _ (can : Can) (done : ℕ → Bool) (goal : ℕ → ℕ → Bool) where
     unfolding grown_in
     grown_left ys s =
         let test : ℕ → Bool = λ x. is_in x ys || can ys x in
-        sifted_same (numbers n 0) (filter test new) (filter test old) (sifted_sub test (numbers n 0) new new-set)
+        sifted_same (numbers n 0) (filter test new) (filter test old) (sifted_sub test (numbers n 0) new new_set)
         (sifted_sub test (numbers n 0) old set)
         (λ x m. let r = filter_holds test new x m in filter_in test old x (new_old x r.0) r.1)
         (λ x m.
@@ -182,7 +182,7 @@ module _ (can : Can) (done : ℕ → Bool) (goal : ℕ → ℕ → Bool) where
 
     pub steps_same : SameAims → (x : ℕ) → steps_to can done (goal i) new x ≡ steps_to can done (goal i) old x
     steps_same e x =
-        steps_first can new done (goal i) nothing n new-set x
+        steps_first can new done (goal i) nothing n new_set x
         ∙ (ap (or_mark n)
         (first_alike n 0 (λ k. is_in x (reached_in can done (goal i) new k)) (λ k. is_in x (reached_in can done (goal i) old k))
         (λ k l h. ap (λ (ys : List ℕ). is_in x ys) (reached_same e k)))

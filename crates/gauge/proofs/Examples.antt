@@ -38,7 +38,7 @@ marked_bands =
       falling = record { number = refl; found = refl; state = refl };
       infinite = record { number = refl; found = refl; state = refl };
       undefined = record { number = refl; found = refl; state = refl };
-      state_is_S = record { number = refl; found = refl; state = refl };
+      state_is_s = record { number = refl; found = refl; state = refl };
       no_reading = record { number = refl; found = refl; state = refl };
       no_aim = record { number = refl; found = refl; state = refl };
       no_deviation = record { number = refl; found = refl; state = refl };

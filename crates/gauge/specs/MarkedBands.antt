@@ -101,7 +101,7 @@ pub record MarkedBands : Type 0 where
   pub falling : One (whole 1) (whole 0) 4 half (whole 0) 11 false 0
   pub infinite : One (whole 0) (inf false) 4 half (whole 0) 11 false 0
   pub undefined : One nan (whole 1) 4 half (whole 0) 11 false 0
-  pub state_is_S : One (whole 0) (whole 1) 3 half (whole 0) 11 false 0
+  pub state_is_s : One (whole 0) (whole 1) 3 half (whole 0) 11 false 0
   -- 12: reading, aim or deviation is not finite; but 11 first
   pub no_reading : One (whole 0) (whole 1) 4 nan (whole 0) 12 false 0
   pub no_aim : One (whole 0) (whole 1) 4 half (inf true) 12 false 0

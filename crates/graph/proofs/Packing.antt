@@ -117,14 +117,14 @@ module _ (plant ends owners part from starts g g₂ labels rest rest' : List ℕ
       → Front (sorted_by n ends owners) part → starts ≡ over (starts_of n ends) from
       → Alike s g₂ Sorted → Alike (n + 1) (drop s g₂) starts → Front (plant_of plant).labels labels
       → Linked plant ends owners g Whole
-  linked same states_few graph_long ends-fit long size ks ss ls sorted started kept stands labelled =
+  linked same states_few graph_long ends_fit long size ks ss ls sorted started kept stands labelled =
       let rev = sorted_by n ends owners in
       let at = starts_of n ends in
-      let low : k + length ends ≤ s = places_low (length g) (length ends) k s ends-fit ks ss in
+      let low : k + length ends ≤ s = places_low (length g) (length ends) k s ends_fit ks ss in
       let last : Alike l Whole g₂ = part_kept l g₂ (labels ++ rest') (omega arith) in
       let short = sorted_few n ends owners in
-      let starts-are = starts_long n ends owners in
-      let rev-first : Front rev (drop k Sorted) =
+      let starts_are = starts_long n ends owners in
+      let rev_first : Front rev (drop k Sorted) =
       part_front k rev g part rest (omega arith) sorted in
       let at_second : Front at (drop s g₂) =
       front_alike (n + 1) at (drop s g₂) starts stands (omega arith) (rw started (over_front at from)) in
@@ -136,7 +136,7 @@ module _ (plant ends owners part from starts g g₂ labels rest rest' : List ℕ
         rev_in_lem =
             rw (← same, size, ← ks)
             (front_kept l k rev Whole g₂ last (omega arith)
-            (front_kept s k rev g₂ Sorted kept (omega arith) rev-first));
+            (front_kept s k rev g₂ Sorted kept (omega arith) rev_first));
         starts_in_lem =
             rw (← same, size, ← ss)
             (front_kept l s at Whole g₂ last (omega arith) at_second);

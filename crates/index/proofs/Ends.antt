@@ -72,14 +72,14 @@ sorted_is s fine ends numbers old new count states starts ec es long valued begu
     let p = plant_of s in
     let many : length p.arrows ≡ count = arrows_length s ∙ sym ec in
     let keys = take count ends in
-    let keys-long : length keys ≡ count = length-take-le count ends long in
+    let keys_long : length keys ≡ count = length-take-le count ends long in
     let few = count_few s fine in
     let fits : sortable (length keys) (length numbers) states starts (length old) ≡ true =
     sortable_yes (length keys) (length numbers) states starts (length old)
     (omega (arith, states_few s fine, plant_states s)) (omega arith) (omega arith) begun (omega arith) in
     let by : by_end p ≡ sorted_by p.states keys numbers =
     sym (map-id (by_end p))
-    ∙ by_sorted p keys (keys-long ∙ sym many)
+    ∙ by_sorted p keys (keys_long ∙ sym many)
     (λ a h.
     get_or-take count ends a 0 (omega arith) ∙ are a (omega arith) ∙ end_read s a (omega (arith, arrows_length s)))
     numbers (λ a. a) (λ a h. own a (omega arith)) (ends_low s fine) (arrows_few s fine) in

@@ -72,7 +72,7 @@ After s index by old =
     pick (ready s index by old) (over (taken by (climbed (plant_of s) 0 (numbers_in (plant_of s) index))) old) old
 
 module _ (s index by old : List ℕ) (count : ℕ) (many : count ≡ word 3 s) (opened : Bool)
-    (is-opened : opened ≡ Opens s index) where
+    (is_opened : opened ≡ Opens s index) where
   -- the test before the loop
   abbrev Test : Bool
   Test = opened && (leb count (length by) && leb count (length old))
@@ -81,7 +81,7 @@ module _ (s index by old : List ℕ) (count : ℕ) (many : count ≡ word 3 s) (
   unfolding ready
   test_is =
       let back = sym many in
-      rw (is-opened, plant_states, arrows_length, back) refl
+      rw (is_opened, plant_states, arrows_length, back) refl
 
   -- where it fails nothing is written, and where it holds none is passed yet
   pub gather_not : Test ≡ false → (false ≡ gathers s index by old) × (old ≡ After s index by old)
@@ -96,7 +96,7 @@ module _ (s index by old : List ℕ) (count : ℕ) (many : count ≡ word 3 s) (
   gather_start h states es =
       let rooms = and_right opened _ h in
       record {
-        passed = pass_start s index count states many es (sym is-opened ∙ and_left opened _ h);
+        passed = pass_start s index count states many es (sym is_opened ∙ and_left opened _ h);
         by_room = leb-true count (length by) (and_left (leb count (length by)) _ rooms);
         room = leb-true count (length old) (and_right (leb count (length by)) _ rooms);
         list = over_none old;
@@ -135,14 +135,14 @@ module _ {s index by old new : List ℕ} {count ends k least n next : ℕ}
 
   -- it passes
   pub gather_turn : (next ≡ 0 → ⊥) → Listed s index by old (set new k (get_or by n 0)) count ends (k + 1) next
-  gather_turn climbs-on =
+  gather_turn climbs_on =
       let v = get_or by n 0 in
       let xs = taken by (Front s index k) in
       let long : length xs ≡ k = front_long s index by k (omega arith) in
-      let there = told_yes s least m is_next climbs-on in
+      let there = told_yes s least m is_next climbs_on in
       let later : ℕ → List ℕ = λ a. climbed (plant_of s) a (Rest s index (k + 1)) in
       record {
-        passed = pass_next l.passed more read told climbs-on;
+        passed = pass_next l.passed more read told climbs_on;
         by_room = l.by_room;
         room = l.room;
         list =

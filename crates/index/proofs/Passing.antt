@@ -237,8 +237,8 @@ module _ {s index : List ℕ} {count ends k least n next : ℕ} (passed : Passed
   pub number_low : (next ≡ 0 → ⊥) → n < count
   number_low good =
       let m = Next s index k left in
-      let climbs-on = (told_yes s least m next_is good).0 in
-      let low = ltb-true m (length (plant_of s).arrows) (and_left (ltb m (length (plant_of s).arrows)) _ climbs-on) in
+      let climbs_on = (told_yes s least m next_is good).0 in
+      let low = ltb-true m (length (plant_of s).arrows) (and_left (ltb m (length (plant_of s).arrows)) _ climbs_on) in
       omega (arith, low, number_is, passed.many, arrows_length s)
 
 -- all are passed

@@ -48,7 +48,7 @@ module _ (p q : Plant) (mask : ℕ) (C : ℕ → Type 0) (a : Alike p q mask C) 
 
   -- waits and landings, worked out from two sound stages that are the same there
   module _ (some_goal : 0 < p.goals) (s t : Stage) (same : SameStage s t) (sound : Sound p mask s)
-      (other-sound : Sound q mask t) (i : ℕ) (i-goal : i < p.goals) where
+      (other_sound : Sound q mask t) (i : ℕ) (i_goal : i < p.goals) where
     wait_in_lem : (x : ℕ) → C x → is_in x s.through ≡ true →
         wait_in p mask s.exits s.through i x ≡ wait_in q mask t.exits t.through i x
     wait_in_lem x c k =
@@ -58,10 +58,10 @@ module _ (p q : Plant) (mask : ℕ) (C : ℕ → Type 0) (a : Alike p q mask C) 
         let v = wait_in q mask t.exits t.through i x in
         let levels =
         level_is p q mask C a s.through t.through same.through_is s.exits t.exits same.out i in
-        let up = level_wait q mask t (omega arith) other-sound i (omega arith) x m w
-        (sym (levels w x c) ∙ wait_level p mask s some_goal sound i i-goal x k w (omega arith)) in
-        let down = level_wait p mask s some_goal sound i i-goal x k v
-        (levels v x c ∙ wait_level q mask t (omega arith) other-sound i (omega arith) x m v (omega arith)) in
+        let up = level_wait q mask t (omega arith) other_sound i (omega arith) x m w
+        (sym (levels w x c) ∙ wait_level p mask s some_goal sound i i_goal x k w (omega arith)) in
+        let down = level_wait p mask s some_goal sound i i_goal x k v
+        (levels v x c ∙ wait_level q mask t (omega arith) other_sound i (omega arith) x m v (omega arith)) in
         omega arith
 
     landing_is : (x : ℕ) → C x → is_in x s.through ≡ true → Same C (landing p mask s i x) (landing q mask t i x)
@@ -79,8 +79,8 @@ module _ (p q : Plant) (mask : ℕ) (C : ℕ → Type 0) (a : Alike p q mask C) 
             (λ y l m. ap (λ v. eqb w 0 || ltb v w) (wait_in_lem y l m)) same.through_is
 
   -- of a kept state
-  module _ (some_goal : 0 < p.goals) (v w : ℕ → Bool) (within : Agrees C v w) (i : ℕ) (i-goal : i < p.goals)
-      (x : ℕ) (c : C x) (is-kept : is_in x (kept_within p mask v) ≡ true) where
+  module _ (some_goal : 0 < p.goals) (v w : ℕ → Bool) (within : Agrees C v w) (i : ℕ) (i_goal : i < p.goals)
+      (x : ℕ) (c : C x) (is_kept : is_in x (kept_within p mask v) ≡ true) where
     abbrev Here : List ℕ
     Here = kept_within p mask v
 
@@ -94,16 +94,16 @@ module _ (p q : Plant) (mask : ℕ) (C : ℕ → Type 0) (a : Alike p q mask C) 
     same_stage = for_is Here There (kept_is p q mask C a v w within) x c
 
     here_sound : Sound p mask (stage_for p mask Here x)
-    here_sound = for_sound p mask v some_goal x is-kept
+    here_sound = for_sound p mask v some_goal x is_kept
 
     there_sound : Sound q mask (stage_for q mask There x)
-    there_sound = for_sound q mask w other_goal x (sym (kept_is p q mask C a v w within x c) ∙ is-kept)
+    there_sound = for_sound q mask w other_goal x (sym (kept_is p q mask C a v w within x c) ∙ is_kept)
 
     pub wait_is : wait_of p mask Here i x ≡ wait_of q mask There i x
     unfolding wait_of
     wait_is =
-        wait_in_lem some_goal (stage_for p mask Here x) (stage_for q mask There x) same_stage here_sound there_sound i i-goal
-        x c (for_through p mask v some_goal x is-kept)
+        wait_in_lem some_goal (stage_for p mask Here x) (stage_for q mask There x) same_stage here_sound there_sound i i_goal
+        x c (for_through p mask v some_goal x is_kept)
 
     pub listed_is : listed_move p mask Here i x ≡ listed_move q mask There i x
     unfolding listed_move
@@ -111,5 +111,5 @@ module _ (p q : Plant) (mask : ℕ) (C : ℕ → Type 0) (a : Alike p q mask C) 
         let s = stage_for p mask Here x in
         let t = stage_for q mask There x in
         move_is p q mask C a (landing p mask s i x) (landing q mask t i x)
-        (landing_is some_goal s t same_stage here_sound there_sound i i-goal x c
-        (for_through p mask v some_goal x is-kept)) x c
+        (landing_is some_goal s t same_stage here_sound there_sound i i_goal x c
+        (for_through p mask v some_goal x is_kept)) x c

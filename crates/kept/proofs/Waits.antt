@@ -61,7 +61,7 @@ module _ (p : Plant) (mask : ℕ) (s : Stage) (some_goal : 0 < p.goals) (sound :
       (λ z m. (filter_holds (can p mask kept) kept z m).0) c))
       x (sound.forces x 0 h some_goal))).1
 
-  module _ (i : ℕ) (i-goal : i < p.goals) where
+  module _ (i : ℕ) (i_goal : i < p.goals) where
     abbrev met : ℕ → Bool
     met x = done x || in_goal p i x
 
@@ -133,21 +133,21 @@ module _ (p : Plant) (mask : ℕ) (s : Stage) (some_goal : 0 < p.goals) (sound :
     pub level_last : (x : ℕ) → is_in x kept ≡ true → is_in x (level p mask done kept i (length kept - 1)) ≡ true
     unfolding level iterate
     level_last x h =
-        let m : is_in x (level p mask done kept i (length kept)) ≡ true = rw (← forced_is_level) (sound.forces x i h i-goal) in
+        let m : is_in x (level p mask done kept i (length kept)) ≡ true = rw (← forced_is_level) (sound.forces x i h i_goal) in
         let b = level_bottom (length kept) x m in
         let l = has_length b.0 (filter met kept) b.1 in
         let full = steps_full p mask kept (filter met kept) start_sifted (length kept - 1) (omega arith) in
         rw (iterate_still (length kept - 1) (length kept) (grown p mask kept) (filter met kept) full
         (omega arith)) at m
 
-    module _ (x : ℕ) (is-kept : is_in x kept ≡ true) where
+    module _ (x : ℕ) (is_kept : is_in x kept ≡ true) where
       -- a wait is below the number of kept states
       pub wait_short : wait_in p mask done kept i x < length kept
       unfolding wait_in
       wait_short =
-          let l = has_length x kept is-kept in
+          let l = has_length x kept is_kept in
           let k = first_least (length kept) 0 (λ n. is_in x (level p mask done kept i n)) (length kept - 1) (omega arith)
-          (omega arith) (level_last x is-kept) in
+          (omega arith) (level_last x is_kept) in
           omega arith
 
       -- it is at most n exactly in level n
@@ -171,10 +171,10 @@ module _ (p : Plant) (mask : ℕ) (s : Stage) (some_goal : 0 < p.goals) (sound :
       wait_goal e = level_goal x (wait_level 0 (omega arith))
 
       pub goal_wait : in_goal p i x ≡ true → wait_in p mask done kept i x ≡ 0
-      goal_wait e = let l = level_wait 0 (goal_level x is-kept e) in omega arith
+      goal_wait e = let l = level_wait 0 (goal_level x is_kept e) in omega arith
 
       pub wait_exit : done x ≡ true → wait_in p mask done kept i x ≡ 0
-      wait_exit e = let l = level_wait 0 (exit_level x is-kept e) in omega arith
+      wait_exit e = let l = level_wait 0 (exit_level x is_kept e) in omega arith
 
     -- where the listed move may end
     pub nearer_holds : (w y : ℕ) → is_in y (nearer p mask done kept i w) ≡ true →
@@ -201,18 +201,18 @@ module _ (p : Plant) (mask : ℕ) (s : Stage) (some_goal : 0 < p.goals) (sound :
     -- there is a move into it
     pub nearer_can : (x : ℕ) → is_in x kept ≡ true →
         can p mask (nearer p mask done kept i (wait_in p mask done kept i x)) x ≡ true
-    nearer_can x is-kept = go (wait_in p mask done kept i x) refl
+    nearer_can x is_kept = go (wait_in p mask done kept i x) refl
       where
         go : (w : ℕ) → wait_in p mask done kept i x ≡ w → can p mask (nearer p mask done kept i w) x ≡ true
         go zero e =
             can_more p mask mask kept (nearer p mask done kept i 0) x (λ u b. b)
-            (λ y k. nearer_in_lem 0 y k (λ l. absurd (omega arith))) (kept_can x is-kept)
+            (λ y k. nearer_in_lem 0 y k (λ l. absurd (omega arith))) (kept_can x is_kept)
         go (suc n) e =
             can_more p mask mask (level p mask done kept i n) (nearer p mask done kept i (suc n)) x (λ u b. b)
             (λ y m. let k = level_kept n y m in
             nearer_in_lem (suc n) y k (λ l. let w = level_wait y k n m in omega arith))
-            (⊎_elim (λ m. absurd (omega (arith, level_wait x is-kept n m))) (λ c. c)
-            (level_step n x (wait_level x is-kept (suc n) (omega arith))))
+            (⊎_elim (λ m. absurd (omega (arith, level_wait x is_kept n m))) (λ c. c)
+            (level_step n x (wait_level x is_kept (suc n) (omega arith))))
 
     -- where the listed move of a state may end, and that there is a move into it
     pub landing_exit : (x : ℕ) → done x ≡ true → landing p mask s i x ≡ s.earlier

@@ -26,9 +26,9 @@ after s t a b x figures same l agree =
 pub elsewhere_traced : ElsewhereTraced
 elsewhere_traced =
     record {
-      same_row = λ {s} {t} {o} {o'} {q} {q'} {mask} x says other-says z w figures l agree.
+      same_row = λ {s} {t} {o} {o'} {q} {q'} {mask} x says other_says z w figures l agree.
           let plain = any_plain says z in
-          let other = any_plain other-says w in
+          let other = any_plain other_says w in
           rw (made_read plain z, made_read other w)
           (elsewhere.same_row s t mask x
           (record {
@@ -39,6 +39,6 @@ elsewhere_traced =
             figures = figures;
           }) l agree);
       after_calls = after;
-      handed_back = λ {s} {t} {row} {other} {x} a b figures same l agree says other-says.
-          says.bytes ∙ after s t a b x figures same l agree ∙ sym other-says.bytes;
+      handed_back = λ {s} {t} {row} {other} {x} a b figures same l agree says other_says.
+          says.bytes ∙ after s t a b x figures same l agree ∙ sym other_says.bytes;
     }

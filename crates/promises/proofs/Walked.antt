@@ -24,7 +24,7 @@ use Rattle.promises.specs.Says.{accepted, keeps, ConsultSays, MovesSays}
 use Rattle.promises.specs.Walks.{Taken, WalksTo, Answered, Walk, Walked, Walking, Walks}
 use Rattle.promises.specs.Steps.{WrittenFor, standing, withdrawn, withdrawn_list_lem, returned, made_by, withdrawn_by}
 use Rattle.promises.proofs.Determined.{determined}
-use Rattle.promises.proofs.Steps.{end_low, consult_accepted as consult-taken, moves_accepted as moves-taken}
+use Rattle.promises.proofs.Steps.{end_low, consult_accepted as consult_taken, moves_accepted as moves_taken}
 use Rattle.promises.proofs.Steps.{by_right}
 
 -- what consult answers for a kept state, once it is accepted
@@ -67,10 +67,10 @@ module _ (s : List ℕ) {b : List ℕ} {mask : ℕ} {within : ℕ → Type 0} (p
   module _ {x i : ℕ} (at : At x i) where
     -- the calls are accepted there
     consult_accepted : consult_fault b x i ≡ 0
-    consult_accepted = consult-taken s plant right at.state at.goal
+    consult_accepted = consult_taken s plant right at.state at.goal
 
     moves_accepted : moves_fault s b x i ≡ 0
-    moves_accepted = moves-taken s plant right at.state at.goal
+    moves_accepted = moves_taken s plant right at.state at.goal
 
     -- the goal arrived at is one of the plant's
     arrived : arrive b x i < (plant_of s).goals

@@ -19,7 +19,7 @@ pub record ElsewhereTraced : Type 0 where
       service_after s a ≡ service_after t b → x < (plant_of s).states →
       AgreeFrom (plant_of s) (plant_of t) (service_after s a) x → row_part (book_after s a) x ≡ row_part (book_after t b) x
   -- and the row that is then handed back is the same
-  pub handed_back : {s t row other : List ℕ} {x : ℕ} {lent part other-lent other-part : ℕ × ℕ} (a : Begun s)
+  pub handed_back : {s t row other : List ℕ} {x : ℕ} {lent part other_lent other_part : ℕ × ℕ} (a : Begun s)
       (b : Begun t) → SameFigures (plant_of s) (plant_of t) → service_after s a ≡ service_after t b →
       x < (plant_of s).states → AgreeFrom (plant_of s) (plant_of t) (service_after s a) x →
-      RowSays (book_after s a) x lent row part → RowSays (book_after t b) x other-lent other other-part → row ≡ other
+      RowSays (book_after s a) x lent row part → RowSays (book_after t b) x other_lent other other_part → row ≡ other

@@ -77,7 +77,7 @@ module _ (n : ℕ) (input : List ℕ) (most : 51281 ≤ n) (longer : n < length 
         elim (same_number (plant_fault (plant_part input)) 0) [
           | inl e ↦
               let few = short e in
-              let cut-long = length-take-le n input (omega arith) in
+              let cut_long = length-take-le n input (omega arith) in
               masks_bad Cut (ap plant_fault same_plant ∙ e) (too_many Cut (omega (arith, same_total)) (omega arith)) ∙
               sym (masks_bad input e (too_many input few (omega arith)))
           | inr e ↦ plant_refused Cut (ap plant_fault same_plant) e ∙ sym (plant_refused input refl e)

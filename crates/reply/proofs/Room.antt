@@ -86,9 +86,9 @@ module _ (p : Plant) (ok : PlantOk p) where
         let others = other_masks m in
         elim (decided (mask_ok p.moves first && each_ok p.moves others)) [
           | inl e ↦
-              let ok-first = and_left (mask_ok p.moves first) _ e in
-              rw (e, in_turn_afresh p ok first ok-first others)
-              (made_most (less_mask first (union_of others)) (less_ok p.moves first (union_of others) ok-first))
+              let ok_first = and_left (mask_ok p.moves first) _ e in
+              rw (e, in_turn_afresh p ok first ok_first others)
+              (made_most (less_mask first (union_of others)) (less_ok p.moves first (union_of others) ok_first))
           | inr e ↦ rw e (refused_most 6 (omega arith))
         ]
 

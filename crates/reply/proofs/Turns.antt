@@ -88,7 +88,7 @@ module _ {s b : List ℕ} (ready : Ready s b) (m : List ℕ) (good : masks_ok m 
 
   -- all are good: a making with the moves of the first less those that the others name
   module _ (fine : mask_ok (plant_of s).moves (union_of (masks_of m)) ≡ true) {first gone : ℕ}
-      (is-first : first ≡ mask_at m 0) (is-gone : gone ≡ union_of (masks_of (take (length m - 4) (drop 4 m))))
+      (is_first : first ≡ mask_at m 0) (is_gone : gone ≡ union_of (masks_of (take (length m - 4) (drop 4 m))))
       {b' : List ℕ} {r : Answer} (says : MakeSays s (first - bit_and first gone) b b' r) where
     both : (mask_ok (plant_of s).moves (mask_at m 0) && each_ok (plant_of s).moves (other_masks m)) ≡ true
     both = sym (all_ok m good (plant_of s).moves) ∙ fine
@@ -102,18 +102,18 @@ module _ {s b : List ℕ} (ready : Ready s b) (m : List ℕ) (good : masks_ok m 
 
     left_is : first - bit_and first gone ≡ Left
     unfolding less_mask
-    left_is = rw (is-first, is-gone, others_union m)
+    left_is = rw (is_first, is_gone, others_union m)
 
     -- it is accepted, if the plant is
     accepted : plant_fault s ≡ 0 → r.number ≡ 0
     unfolding told_of mask_fault book_room
     accepted z =
         let p = plant_of s in
-        let left-ok : mask_ok p.moves (first - bit_and first gone) ≡ true =
+        let left_ok : mask_ok p.moves (first - bit_and first gone) ≡ true =
         rw left_is (less_ok p.moves (mask_at m 0) (union_of (other_masks m)) first_ok) in
         says.writes.number
         ∙ make_told s (first - bit_and first gone) (length b) 0 z
-        ∙ rw (left-ok, le-leb (book_long p.settles p.states p.goals) (length b) (omega (arith, ready.long)))
+        ∙ rw (left_ok, le-leb (book_long p.settles p.states p.goals) (length b) (omega (arith, ready.long)))
 
     -- and leaves the book of the withdrawals in turn
     pub turned_made : outcome_of s m ≡ came_to r.number b'

@@ -143,21 +143,21 @@ module _ (p : Plant) (mask : ℕ) (ok : PlantOk p) (few : length p.arrows ≤ 81
             let m = mul-le-mul_right {m = a} {n = 8} b ha in
             omega arith
 
-    label_at : (x : ℕ) → is_in x first ≡ true
+    label_at_lem : (x : ℕ) → is_in x first ≡ true
         → get_or labels x 0 ≡ get_or p.labels x 0 + pick (goes p leave x) 32768 0
     unfolding labels_in
-    label_at x m =
+    label_at_lem x m =
         part_at (length graph - 1024) p.states graph x (sifted_below p.states first set x m) ∙ exits x m
 
     -- a run is over where a state leaves, and the goals are the plant's
     over_is : (x : ℕ) → is_in x first ≡ true → over_at labels x ≡ goes p leave x
     unfolding over_at
-    over_is x m = ap (bit 15) (label_at x m) ∙ exit_bit (get_or p.labels x 0) (goes p leave x) (label_low p ok x)
+    over_is x m = ap (bit 15) (label_at_lem x m) ∙ exit_bit (get_or p.labels x 0) (goes p leave x) (label_low p ok x)
 
     goal_is : (i x : ℕ) → i < p.goals → is_in x first ≡ true → goal_of labels i x ≡ in_goal p i x
     unfolding goal_of in_goal
     goal_is i x h m =
-        ap (bit (suc i)) (label_at x m)
+        ap (bit (suc i)) (label_at_lem x m)
         ∙ goal_bit (get_or p.labels x 0) (goes p leave x) (label_low p ok x) i (omega (arith, ok.sizes.goals_most))
 
     -- what is left are the states kept

@@ -26,7 +26,7 @@ filter_whole f (x ∷ xs) h = rw (h x (is_in_here x xs), filter_whole f xs (λ y
 module _ (p : Plant) (mask : ℕ) (leave : List ℕ) (s : Stage) (some_goal : 0 < p.goals) (sound : Sound p mask s)
     (agree : (x : ℕ) → is_in x s.through ≡ true → goes p leave x ≡ s.exits x)
     (lowest : (x : ℕ) → is_in x s.through ≡ true → s.exits x ≡ true → get_or leave x 0 ≡ move_into p mask s.earlier x)
-    (i : ℕ) (i-goal : i < p.goals) where
+    (i : ℕ) (i_goal : i < p.goals) where
   abbrev kept : List ℕ
   kept = s.through
 
@@ -48,7 +48,7 @@ module _ (p : Plant) (mask : ℕ) (leave : List ℕ) (s : Stage) (some_goal : 0 
   -- its steps are the levels of the waits
   within_level : (n : ℕ) → within p mask leave kept i n ≡ level p mask s.exits kept i n
   unfolding within
-  within_level n = ap (iterate n (grown p mask kept)) target_same ∙ steps_level p mask s some_goal sound i i-goal n
+  within_level n = ap (iterate n (grown p mask kept)) target_same ∙ steps_level p mask s some_goal sound i i_goal n
 
   -- so a state is reached in as many steps as its wait
   step_wait : (x : ℕ) → step_of p mask leave kept i x ≡ W x
@@ -74,27 +74,27 @@ module _ (p : Plant) (mask : ℕ) (leave : List ℕ) (s : Stage) (some_goal : 0 
       within_level n
       ∙ sifted_same kept (level p mask s.exits kept i n) (nearer p mask s.exits kept i (suc n)) (level_sifted n)
       (nearer_sifted (suc n))
-      (λ y m. let k = level_kept p mask s some_goal sound i i-goal n y m in
-      nearer_in_lem p mask s some_goal sound i i-goal (suc n) y k
-      (λ l. let w = level_wait p mask s some_goal sound i i-goal y k n m in omega arith))
-      (λ y m. let r = nearer_holds p mask s some_goal sound i i-goal (suc n) y m in
-      wait_level p mask s some_goal sound i i-goal y r.0 n (let l = r.1 (omega arith) in omega arith))
+      (λ y m. let k = level_kept p mask s some_goal sound i i_goal n y m in
+      nearer_in_lem p mask s some_goal sound i i_goal (suc n) y k
+      (λ l. let w = level_wait p mask s some_goal sound i i_goal y k n m in omega arith))
+      (λ y m. let r = nearer_holds p mask s some_goal sound i i_goal (suc n) y m in
+      wait_level p mask s some_goal sound i i_goal y r.0 n (let l = r.1 (omega arith) in omega arith))
 
   -- a listed move may end in what was reached before, where a state cannot leave
   before_landing : (x : ℕ) → s.exits x ≡ false → (w : ℕ) → W x ≡ w → before p mask leave kept i w ≡ landing p mask s i x
   unfolding before
   before_landing x e zero q =
-      sym (landing_nearer p mask s some_goal sound i i-goal x e ∙ ap (nearer p mask s.exits kept i) q ∙ nearer_none)
+      sym (landing_nearer p mask s some_goal sound i i_goal x e ∙ ap (nearer p mask s.exits kept i) q ∙ nearer_none)
   before_landing x e (suc n) q =
       within_nearer n
-      ∙ sym (landing_nearer p mask s some_goal sound i i-goal x e ∙ ap (nearer p mask s.exits kept i) q)
+      ∙ sym (landing_nearer p mask s some_goal sound i i_goal x e ∙ ap (nearer p mask s.exits kept i) q)
 
   -- the move of a state is the listed one
   found_landing : (x : ℕ) → is_in x kept ≡ true → found_by p mask leave kept i (W x) x ≡ move_into p mask (landing p mask s i x) x
   unfolding found_by
   found_landing x m =
       ⊎_elim
-      (λ e. rw (agree x m ∙ e, landing_exit p mask s some_goal sound i i-goal x e) (lowest x m e))
+      (λ e. rw (agree x m ∙ e, landing_exit p mask s some_goal sound i i_goal x e) (lowest x m e))
       (λ e.
       let stays : goes p leave x ≡ false = agree x m ∙ e in
       rw stays (ap (λ ys. move_into p mask ys x) (before_landing x e (W x) refl)))
@@ -105,7 +105,7 @@ module _ (p : Plant) (mask : ℕ) (leave : List ℕ) (s : Stage) (some_goal : 0 
       (reached_by p mask leave kept i x ≡ move_into p mask (landing p mask s i x) x)
   unfolding reached reached_by
   stage_reached x m = (
-    rw (forced_same, sound.forces x i m i-goal) (step_wait x),
-    rw (forced_same, sound.forces x i m i-goal)
+    rw (forced_same, sound.forces x i m i_goal) (step_wait x),
+    rw (forced_same, sound.forces x i m i_goal)
         (ap (λ w. found_by p mask leave kept i w x) (step_wait x) ∙ found_landing x m),
   )

@@ -160,13 +160,13 @@ module _ (p : Plant) (mask : ℕ) (start : List ℕ) (some_goal : 0 < p.goals) (
               let e = placed.stage_is x (inside x m) in
               ⊎_elim
               (λ n.
-              let old-one : is_new waits stages x ≡ false =
+              let old_one : is_new waits stages x ≡ false =
               new_is x (inside x m) ∙ ap₂ (λ (a b : Bool). a && not b) m n in
-              omega (arith, so_far.has x n, e ∙ pick_no (is_new waits stages x) number (get_or stages x 0) old-one))
+              omega (arith, so_far.has x n, e ∙ pick_no (is_new waits stages x) number (get_or stages x 0) old_one))
               (λ n.
-              let new-one : is_new waits stages x ≡ true =
+              let new_one : is_new waits stages x ≡ true =
               new_is x (inside x m) ∙ ap₂ (λ (a b : Bool). a && not b) m n in
-              omega (arith, low, e ∙ pick_yes (is_new waits stages x) number (get_or stages x 0) new-one))
+              omega (arith, low, e ∙ pick_yes (is_new waits stages x) number (get_or stages x 0) new_one))
               (decided (is_in x (Upto k)));
           not_yet = λ x h m.
               let out_one : is_new waits stages x ≡ false =

@@ -106,7 +106,7 @@ module _ (p : Plant) (mask : ℕ) (start : List ℕ) (k : ℕ) (stages old rows 
 module _ (p : Plant) (mask : ℕ) (leave Kept : List ℕ) (s : Stage) (some_goal : 0 < p.goals) (sound : Sound p mask s)
     (agree : (x : ℕ) → is_in x s.through ≡ true → goes p leave x ≡ s.exits x)
     (lowest : (x : ℕ) → is_in x s.through ≡ true → s.exits x ≡ true → get_or leave x 0 ≡ move_into p mask s.earlier x)
-    (x : ℕ) (kept : is_in x Kept ≡ true) (inside : is_in x s.through ≡ true) (for-x : stage_for p mask Kept x ≡ s) where
+    (x : ℕ) (kept : is_in x Kept ≡ true) (inside : is_in x s.through ≡ true) (for_x : stage_for p mask Kept x ≡ s) where
   pub entry_reached : (i : ℕ) → i < p.goals
       → entry_numbers p mask Kept x i
       ≡ reached p mask leave s.through i x ∷ (reached_by p mask leave s.through i x ∷ [])
@@ -115,13 +115,13 @@ module _ (p : Plant) (mask : ℕ) (leave Kept : List ℕ) (s : Stage) (some_goal
       let r = stage_reached p mask leave s some_goal sound agree lowest i hi x inside in
       ap (λ (b : Bool). pick b (wait_of p mask Kept i x ∷ (listed_move p mask Kept i x ∷ [])) (lost_mark ∷ (lost_mark ∷ []))) kept
       ∙ ap₂ (λ (v w : ℕ). v ∷ (w ∷ []))
-      (ap (λ (t : Stage). wait_in p mask t.exits t.through i x) for-x ∙ sym r.0)
-      (ap (λ (t : Stage). move_into p mask (landing p mask t i x) x) for-x ∙ sym r.1)
+      (ap (λ (t : Stage). wait_in p mask t.exits t.through i x) for_x ∙ sym r.0)
+      (ap (λ (t : Stage). move_into p mask (landing p mask t i x) x) for_x ∙ sym r.1)
 
 -- a state that is new in a stage
 module _ (p : Plant) (mask : ℕ) (start : List ℕ) (some_goal : 0 < p.goals) (settling : p.settles ≡ true) (k x : ℕ)
     (new : is_in x (stages_to (suc k) p mask (among start)) ≡ true)
-    (not-old : is_in x (stages_to k p mask (among start)) ≡ false) where
+    (not_old : is_in x (stages_to k p mask (among start)) ≡ false) where
   abbrev Kept : List ℕ
   Kept = kept_within p mask (among start)
 
@@ -140,7 +140,7 @@ module _ (p : Plant) (mask : ℕ) (start : List ℕ) (some_goal : 0 < p.goals) (
           elim (dec_lt (stages_before p mask Kept x) k) [
             | yes l ↦
                 absurd (not_both
-                (stage_upto p mask (among start) some_goal x new_kept settling n (omega arith)) (rw e at not-old))
+                (stage_upto p mask (among start) some_goal x new_kept settling n (omega arith)) (rw e at not_old))
             | no l ↦ omega arith
           ]
 

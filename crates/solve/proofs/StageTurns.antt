@@ -36,10 +36,10 @@ module _ {p : Plant} {mask : ℕ} {done earlier leave all : List ℕ} {count : �
       (same_number y x)
 
   -- the test of the loop
-  module _ {t : Bool} {none : ℕ} (is-settled : t ≡ settled p x) (moves : none ≡ p.moves) where
+  module _ {t : Bool} {none : ℕ} (is_settled : t ≡ settled p x) (moves : none ≡ p.moves) where
     passes : (t || ltb v none) ≡ passing p mask earlier x
     unfolding passing can
-    passes = ap₂ (λ (a b : Bool). a || b) is-settled (ap₂ ltb found moves)
+    passes = ap₂ (λ (a b : Bool). a || b) is_settled (ap₂ ltb found moves)
 
     pub opened_yes : count < length all → (t || ltb v none) ≡ true → {all' : List ℕ} {count' : ℕ} → all' ≡ set all count x
         → count' ≡ count + 1

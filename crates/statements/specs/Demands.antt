@@ -270,14 +270,14 @@ pub record Returning : Type 0 where
   -- by rising number, and so each once
   pub rising : (b after : List ℕ) → Rising (gained_states b after)
   -- to a book of a making: what is kept before is kept now, and with the states listed that is all
-  pub still_kept : (s : List ℕ) (mask room back next-room gained : ℕ) → make_fault s mask room ≡ 0 →
+  pub still_kept : (s : List ℕ) (mask room back next_room gained : ℕ) → make_fault s mask room ≡ 0 →
       let before = made_book (plant_of s) mask in
-      return_fault s before back next-room gained ≡ 0 → (x : ℕ) → x < (plant_of s).states → is_lost before x ≡ false →
+      return_fault s before back next_room gained ≡ 0 → (x : ℕ) → x < (plant_of s).states → is_lost before x ≡ false →
       is_lost (returned_book (plant_of s) before back) x ≡ false
-  pub adds_up : (s : List ℕ) (mask room back next-room gained : ℕ) → make_fault s mask room ≡ 0 →
+  pub adds_up : (s : List ℕ) (mask room back next_room gained : ℕ) → make_fault s mask room ≡ 0 →
       let before = made_book (plant_of s) mask in
       let after = returned_book (plant_of s) before back in
-      return_fault s before back next-room gained ≡ 0 →
+      return_fault s before back next_room gained ≡ 0 →
       book_count before + length (gained_states before after) ≡ book_count after
   -- moves in service withdrawn from such a book and returned: it is as it was, and the states listed are those dropped
   pub undone : (s : List ℕ) (mask room gone : ℕ) → make_fault s mask room ≡ 0 → bit_or mask gone ≡ mask →
@@ -346,7 +346,7 @@ pub record Demand3 : Type 0 where
   pub told_alone : (s : List ℕ) (mask room : ℕ) (calls : List Call) → make_fault s mask room ≡ 0 →
       answers s (made_book (plant_of s) mask) calls ≡ told (plant_of s) calls
   -- two such books are equal exactly when the same moves are in service
-  pub equal_books : (s : List ℕ) (mask room other-mask other_room : ℕ) (calls other-calls : List Call) →
-      make_fault s mask room ≡ 0 → make_fault s other-mask other_room ≡ 0 →
-      (standing s (made_book (plant_of s) mask) calls ≡ standing s (made_book (plant_of s) other-mask) other-calls) ↔
-      (in_service (plant_of s) mask calls ≡ in_service (plant_of s) other-mask other-calls)
+  pub equal_books : (s : List ℕ) (mask room other_mask other_room : ℕ) (calls other_calls : List Call) →
+      make_fault s mask room ≡ 0 → make_fault s other_mask other_room ≡ 0 →
+      (standing s (made_book (plant_of s) mask) calls ≡ standing s (made_book (plant_of s) other_mask) other_calls) ↔
+      (in_service (plant_of s) mask calls ≡ in_service (plant_of s) other_mask other_calls)

@@ -61,10 +61,10 @@ pub record Elsewhere : Type 0 where
       SameRow s t mask x
   -- after any two lists of calls, each following an accepted make of its plant, that leave the same moves in service:
   -- the row is the same in the standing books
-  pub after_calls : (s t : List ℕ) (mask room other-mask other_room x : ℕ) (calls other-calls : List Call) →
-      make_fault s mask room ≡ 0 → make_fault t other-mask other_room ≡ 0 →
+  pub after_calls : (s t : List ℕ) (mask room other_mask other_room x : ℕ) (calls other_calls : List Call) →
+      make_fault s mask room ≡ 0 → make_fault t other_mask other_room ≡ 0 →
       let p = plant_of s in
       let q = plant_of t in
-      SameFigures p q → in_service p mask calls ≡ in_service q other-mask other-calls → x < p.states →
+      SameFigures p q → in_service p mask calls ≡ in_service q other_mask other_calls → x < p.states →
       AgreeFrom p q (in_service p mask calls) x →
-      row_part (standing s (made_book p mask) calls) x ≡ row_part (standing t (made_book q other-mask) other-calls) x
+      row_part (standing s (made_book p mask) calls) x ≡ row_part (standing t (made_book q other_mask) other_calls) x

@@ -114,11 +114,11 @@ meets_larger p mask x u good other larger h =
 module _ (p : Plant) (mask : ℕ) (within other : ℕ → Type 0) (same : (y : ℕ) → within y ↔ other y) (x : ℕ) where
   -- a strategy forces a property in time within a set exactly when one forces the same within another set of the same
   -- states
-  pub forces_same : (good as-good : ℕ → Type 0) → ((y : ℕ) → good y ↔ as-good y) → (n : ℕ) →
-      Forces p mask within x good n ↔ Forces p mask other x as-good n
-  forces_same good as-good alike n = (
-    forces_larger p mask within other (λ y. (same y).0) x good as-good (λ y. (alike y).0) n,
-    forces_larger p mask other within (λ y. (same y).1) x as-good good (λ y. (alike y).1) n,
+  pub forces_same : (good as_good : ℕ → Type 0) → ((y : ℕ) → good y ↔ as_good y) → (n : ℕ) →
+      Forces p mask within x good n ↔ Forces p mask other x as_good n
+  forces_same good as_good alike n = (
+    forces_larger p mask within other (λ y. (same y).0) x good as_good (λ y. (alike y).0) n,
+    forces_larger p mask other within (λ y. (same y).1) x as_good good (λ y. (alike y).1) n,
   )
 
 -- a state from which a strategy wins without leaving a set is in the set

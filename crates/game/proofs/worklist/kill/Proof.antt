@@ -14,7 +14,7 @@ use Rattle.game.proofs.Counts.{lt_or_le}
 use Rattle.game.proofs.Parts.{groups_end, labels_end}
 use Rattle.game.proofs.Killing.{label_over, kill_group, kill_rooms, kill_dead, kill_some, kill_more}
 use Rattle.game.proofs.Killing.{kill_unmarked, kill_over}
-use Rattle.game.proofs.Killing.{push-new, push-room, kill-push}
+use Rattle.game.proofs.Killing.{push_new, push_room, kill_push}
 use Rattle.game.proofs.Pushing.{grown_none, grown_one}
 use Rattle.game.proofs.worklist.kill.Statement.{statement}
 use Rattle.game.proofs.worklist.kill.Tie as tie
@@ -202,8 +202,8 @@ push-requires c κs =
     let s = counted t.before.before.before.before.before in
     let dead = not_dead t.before.before.before.before.before.before.before.before.before in
     let last = last_group t.before.before.before.before.before in (
-      (push-room _ _ _ _ _ s.requires.0 s.requires.1.4 s.requires.1.5 dead last.0 last.1, (rooms s).2),
-      push-new _ _ _ _ _ s.requires.0 s.requires.1.4 s.requires.1.5 dead last.0 last.1,
+      (push_room _ _ _ _ _ s.requires.0 s.requires.1.4 s.requires.1.5 dead last.0 last.1, (rooms s).2),
+      push_new _ _ _ _ _ s.requires.0 s.requires.1.4 s.requires.1.5 dead last.0 last.1,
     )
 
 same-length-6 : tie.Need-shape_of-member
@@ -228,7 +228,7 @@ returns-4 c =
     let done = p.push.ensures in
     rw (done.0, done.1.0, done.1.1) (
       λ ok after xs first d fails.
-          kill-push _ _ _ _ _ s.requires.0 d fails (not_dead t.before.before.before.before.before.before.before.before.before.before.before.before.before.before) last.0 last.1
+          kill_push _ _ _ _ _ s.requires.0 d fails (not_dead t.before.before.before.before.before.before.before.before.before.before.before.before.before.before) last.0 last.1
           (sym (is_over e.before.before.before.before.before.before.before.before) ∙ e.if-bit_at.false),
       grown_one _ _ _,
     )
