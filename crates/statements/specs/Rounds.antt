@@ -1,5 +1,6 @@
 -- Request (xiii), stated: the rounds in which the kept states of a plant that does not settle are worked out, how many
--- there are, and the plants that take most. The proof is in crates kept and demands.
+-- there are, and the plants that take most. Not claimed yet: no call cites it. Of `Rounds` crate kept has all parts but
+-- `every_size`, which is not proved; they are not put together.
 use Rattle.std.specs.Prelude.{◌≡◌, ◌↔◌, Bool, true, false, ◌&&◌, List, [], ◌∷◌, ℕ, suc, ◌≤◌, ◌<◌, length}
 use Rattle.statements.specs.Sets.{bit, pick, numbers, every, first, iterate, is_in, all_in, filter}
 use Rattle.statements.specs.Plants.{Plant, plant_of, allowed, in_goal, ends, available, can}
