@@ -1,8 +1,8 @@
 // Loops over slices of 16-bit numbers. Each is total: where something does not fit it writes nothing.
 #![tactic(auto)]
 
-ghost use Rattle.std.specs.Prelude.{◌≡◌};
-ghost use Rattle.statements.specs.Sets.{over};
+ghost use Rattle.std.specs.Prelude.{◌≡◌, true, ℕ, Bool, ◌≤◌, length, take};
+ghost use Rattle.statements.specs.Sets.{over, is_in, filter};
 ghost use Rattle.arrays.specs.Lists.{fitting, zeroed, rising};
 
 // Copies a list over the front of another.
@@ -12,24 +12,19 @@ pub fn copy(from: &[u16], to: &mut [u16])
     if from.len() > to.len() {
         return;
     }
-    let mut k = 0;
-    while k < from.len() {
-        to[k] = from[k];
-        k += 1;
-    }
+    to[..from.len()].copy_from_slice(from);
 }
 
 // Puts 0 at each listed place; a place beyond the end is passed over.
+#[tactic(auto, using(crate::proofs::Marks::mark_none, crate::proofs::Marks::mark_yes, crate::proofs::Marks::mark_no))]
 pub fn mark(listed: &[u16], to: &mut [u16])
     ensures { to.new ≡ zeroed listed.now to.old }
 {
-    let mut k = 0;
-    while k < listed.len() {
-        let x = listed[k] as usize;
-        if x < to.len() {
-            to[x] = 0;
+    for &x in listed {
+        let place = usize::from(x);
+        if place < to.len() {
+            to[place] = 0;
         }
-        k += 1;
     }
 }
 
@@ -38,15 +33,35 @@ pub fn mark(listed: &[u16], to: &mut [u16])
 pub fn rises(list: &[u16], limit: usize) -> bool
     ensures { result ≡ rising 0 limit list.now }
 {
-    if list.len() == 0 {
+    if list.is_empty() {
         return true;
     }
     let n = list.len() - 1;
-    let mut k = 0;
     let mut good = true;
-    while k < n {
-        good = good & (list[k] < list[k + 1]);
-        k += 1;
+    for k in 0..n {
+        good &= list[k] < list[k + 1];
     }
-    good & ((list[n] as usize) < limit)
+    good & (usize::from(list[n]) < limit)
+}
+
+// Strikes out those of the first numbers of a list that fail a test: the others close up at its front, in their order.
+// Hands on how many are left, one less for each that is struck out.
+pub fn sift<F: Fn(u16) -> bool>(list: &mut [u16], count: usize, keep: F) -> usize
+    requires room { count ≤ length list.old }
+    requires callable { (x : ℕ) → is_in x (take count list.old) ≡ true → F.pre keep x }
+    ensures number { (test : ℕ → Bool) → ((x : ℕ) (b : Bool) → F.post keep x b → b ≡ test x)
+        → result ≡ length (filter test (take count list.old)) }
+    ensures still { (test : ℕ → Bool) → ((x : ℕ) (b : Bool) → F.post keep x b → b ≡ test x)
+        → take result list.new ≡ filter test (take count list.old) }
+{
+    let mut kept = count;
+    for k in 0..count {
+        let number = list[k];
+        if keep(number) {
+            list[k - (count - kept)] = number;
+        } else {
+            kept -= 1;
+        }
+    }
+    kept
 }

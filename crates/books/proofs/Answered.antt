@@ -10,6 +10,7 @@ use lib.Dec.{eqb, leb}
 use lib.ListN.{length, take}
 use lib.Bits.{bit_or}
 use borrow.Author.Tests.{eqb-true, eq-eqb, ne_eqb}
+use Rattle.std.specs.Prelude.{Some, None}
 use Rattle.statements.specs.Sets.{pick, over}
 use Rattle.statements.specs.Plants.{word, plant_of, plant_fault}
 use Rattle.statements.specs.Books.{bytes_of, book_states, book_mask, made_book, withdrawn_book, returned_book, gained_states}
@@ -28,13 +29,14 @@ use Rattle.refusals.proofs.Ahead.{withdraw_left, withdraw_exactly, list_left, li
 use Rattle.refusals.proofs.Refusals.{indexing_exactly}
 use Rattle.graph.specs.Packed.{accepts}
 use Rattle.writing.specs.Written.{dropped_count, written_drops}
+use Rattle.writing.proofs.Solved.{some_other, some_same}
 use Rattle.writing.proofs.Drops.{room_listed}
-use Rattle.promises.specs.declared.Answer.{Answer}
-use Rattle.promises.specs.Says.{Writes, Says, WithdrawSays, WithdrawListSays, ReturnSays, IndexSays}
+use Rattle.promises.specs.Answers.{Answer}
+use Rattle.promises.specs.Says.{Listed, Writes, Says, WithdrawSays, WithdrawListSays, ReturnSays, IndexSays}
+use Rattle.promises.proofs.Demands.{of_withdraw}
 use Rattle.promises.proofs.InTurn.{as_list}
 use Rattle.books.specs.Ways.{number_by, make_ask, withdraw_ask}
 use Rattle.books.proofs.Ways.{plain_passed, by_exactly, make_says, withdraw_says}
-use Rattle.books.proofs.Made.{made_long, withdrawn_long}
 
 -- what a call that writes a book and lists states answers when it is refused
 pub writes_refused : (n number : ℕ) (after listed o d : List ℕ) {r : Answer}
@@ -52,32 +54,32 @@ writes_refused n number after listed o d e en h =
     })
 
 -- what one answers that has written a book, or has not, by a test that tells whether it is accepted
-module _ (number long : ℕ) (good : Bool) (new listed o d : List ℕ) {o' : List ℕ} (exact : good ≡ eqb number 0)
-    (size : long ≡ pick good (length new) 0) (wrote : o' ≡ pick good (over new o) o) where
+module _ (number : ℕ) (good : Bool) (new listed o d : List ℕ) {o' : List ℕ} (exact : good ≡ eqb number 0)
+    (wrote : o' ≡ pick good (over new o) o) where
   -- without a book it is refused
-  pub writes_none : (n : ℕ) {r : Answer} → 16 ≤ length new → long ≡ 0 → r ≡ record { number = n; length = 0; drops = 0 }
-      → n ≡ number → Writes number new listed o o' d d r
-  writes_none n {r} some none e en =
+  pub writes_none : (n : ℕ) {r : Answer} → None ≡ pick good (Some (length new)) None
+      → r ≡ record { number = n; length = 0; drops = 0 } → n ≡ number → Writes number new listed o o' d d r
+  writes_none n {r} none e en =
       elim (decided good) [
-        | inl t ↦ absurd (omega (arith, rw t at size))
+        | inl t ↦ absurd (some_other (rw t at none))
         | inr f ↦
             rw (rw f at wrote)
             (writes_refused n number new listed o d e en (λ z. not_both (exact ∙ eq-eqb _ _ (sym en ∙ z)) f))
       ]
 
   -- with one: it is written, and the list by what is read back of it
-  pub writes_0 : {count : ℕ} {d' : List ℕ} → (long ≡ 0 → ⊥)
+  pub writes_0 : {long count : ℕ} {d' : List ℕ} → Some long ≡ pick good (Some (length new)) None
       → (number ≡ 0 → take long o' ≡ new → (count ≡ length listed) × (d' ≡ over (bytes_of listed) d))
       → Writes number new listed o o' d d' (record { number = 0; length = long; drops = count })
-  writes_0 some lists =
+  writes_0 {long} size lists =
       elim (decided good) [
         | inl t ↦
             let zero = eqb-true _ _ (sym exact ∙ t) in
-            let is = rw t at size in
+            let is : long ≡ length new = some_same (rw t at size) in
             let book = rw t at wrote in
             let list = lists zero (ap (take long) book ∙ over_back new o long is) in
             record { number = sym zero; length_is = is; drops = list.0; book = book; list = list.1 }
-        | inr f ↦ absurd (some (rw f at size))
+        | inr f ↦ absurd (some_other (sym (rw f at size)))
       ]
 
 -- what a make answers, by an index or without one
@@ -92,28 +94,29 @@ module _ (indexed : Bool) (index s : List ℕ) (mask : ℕ) (o : List ℕ) where
       (λ z. not_both ((make_exactly s mask (length o)).0 (plain_passed indexed index s _ (sym en ∙ z))).0 f))
 
   -- and when it does
-  module _ (long : ℕ) {o' : List ℕ} (h : make_ahead s mask (length o) ≡ true)
-      (size : long ≡ pick (accepts indexed index s) (length (made_book (plant_of s) mask)) 0)
+  module _ {o' : List ℕ} (h : make_ahead s mask (length o) ≡ true)
       (wrote : o' ≡ pick (accepts indexed index s) (over (made_book (plant_of s) mask) o) o) where
     made_exact : accepts indexed index s ≡ eqb (number_by indexed index s (make_fault s mask (length o))) 0
     made_exact = by_exactly indexed index s _ (make_left s mask (length o) h)
 
     -- without a book
-    pub make_none : (n : ℕ) {r : Answer} → long ≡ 0 → r ≡ record { number = n; length = 0; drops = 0 }
+    pub make_none : (n : ℕ) {r : Answer}
+        → None ≡ pick (accepts indexed index s) (Some (length (made_book (plant_of s) mask))) None
+        → r ≡ record { number = n; length = 0; drops = 0 }
         → n ≡ number_by indexed index s (make_fault s mask (length o))
         → Says s [] (make_ask indexed index mask) o o' [] [] r
     make_none n none e en =
         make_says indexed index s mask
-        (writes_none _ long (accepts indexed index s) _ _ o [] made_exact size wrote n (made_long (plant_of s) mask)
-        none e en)
+        (writes_none _ (accepts indexed index s) _ _ o [] made_exact wrote n none e en)
 
     -- with one
-    pub make_done : (long ≡ 0 → ⊥)
+    pub make_done : {long : ℕ}
+        → Some long ≡ pick (accepts indexed index s) (Some (length (made_book (plant_of s) mask))) None
         → Says s [] (make_ask indexed index mask) o o' [] [] (record { number = 0; length = long; drops = 0 })
     unfolding over bytes_of
     make_done some =
         make_says indexed index s mask
-        (writes_0 _ long (accepts indexed index s) _ _ o [] made_exact size wrote some (λ z e. (refl, refl)))
+        (writes_0 _ (accepts indexed index s) _ _ o [] made_exact wrote some (λ z e. (refl, refl)))
 
 -- what a withdrawal answers, by an index or without one
 module _ (indexed : Bool) (index s b : List ℕ) (gone : ℕ) (o d : List ℕ) where
@@ -128,24 +131,25 @@ module _ (indexed : Bool) (index s b : List ℕ) (gone : ℕ) (o d : List ℕ) w
       ((withdraw_exactly s b gone (length o) (length d)).0 (plain_passed indexed index s _ (sym en ∙ z))).0 f)
 
   -- and when it does
-  module _ (long : ℕ) {o' : List ℕ} (h : withdraw_ahead s b gone (length o) (length d) ≡ true)
-      (size : long ≡ pick (accepts indexed index s) (length (withdrawn_book (plant_of s) b gone)) 0)
+  module _ {o' : List ℕ} (h : withdraw_ahead s b gone (length o) (length d) ≡ true)
       (wrote : o' ≡ pick (accepts indexed index s) (over (withdrawn_book (plant_of s) b gone) o) o) where
     withdrawn_exact : accepts indexed index s
         ≡ eqb (number_by indexed index s (withdraw_fault s b gone (length o) (length d))) 0
     withdrawn_exact = by_exactly indexed index s _ (withdraw_left s b gone (length o) (length d) h)
 
     -- without a book
-    pub withdraw_none : (n : ℕ) {r : Answer} → long ≡ 0 → r ≡ record { number = n; length = 0; drops = 0 }
+    pub withdraw_none : (n : ℕ) {r : Answer}
+        → None ≡ pick (accepts indexed index s) (Some (length (withdrawn_book (plant_of s) b gone))) None
+        → r ≡ record { number = n; length = 0; drops = 0 }
         → n ≡ number_by indexed index s (withdraw_fault s b gone (length o) (length d))
         → Says s b (withdraw_ask indexed index gone) o o' d d r
     withdraw_none n none e en =
         withdraw_says indexed index s b gone
-        (writes_none _ long (accepts indexed index s) _ _ o d withdrawn_exact size wrote n
-        (withdrawn_long (plant_of s) b gone) none e en)
+        (writes_none _ (accepts indexed index s) _ _ o d withdrawn_exact wrote n none e en)
 
     -- with one: the states dropped are listed
-    pub withdraw_done : {count : ℕ} {d' : List ℕ} → (long ≡ 0 → ⊥)
+    pub withdraw_done : {long count : ℕ} {d' : List ℕ}
+        → Some long ≡ pick (accepts indexed index s) (Some (length (withdrawn_book (plant_of s) b gone))) None
         → count ≡ dropped_count b (take long o') d → d' ≡ written_drops b (take long o') d
         → Says s b (withdraw_ask indexed index gone) o o' d d' (record { number = 0; length = long; drops = count })
     withdraw_done some ec ed =
@@ -155,13 +159,16 @@ module _ (indexed : Bool) (index s b : List ℕ) (gone : ℕ) (o d : List ℕ) w
         let room : 2 * book_states b ≤ length d = omega (arith, drops_fit p (length d) ok.drops_ok) in
         let listed = room_listed b (withdrawn_book p b gone) d room in
         withdraw_says indexed index s b gone
-        (writes_0 _ long (accepts indexed index s) _ _ o d withdrawn_exact size wrote some
+        (writes_0 _ (accepts indexed index s) _ _ o d withdrawn_exact wrote some
         (λ z back. (rw back at ec ∙ listed.0, rw back at ed ∙ listed.1)))
 
+-- the drop list of every accepted withdrawal
+pub drops_listed : Listed
+drops_listed = of_withdraw.1.1.1.1.0
+
 -- what a return answers when it passes: its book is that of a making for the old mask and the moves returned
-module _ (index s b : List ℕ) (back : ℕ) (o d : List ℕ) (old long : ℕ) {o' : List ℕ}
+module _ (index s b : List ℕ) (back : ℕ) (o d : List ℕ) (old : ℕ) {o' : List ℕ}
     (h : withdraw_ahead s b back (length o) (length d) ≡ true) (mask_is : old ≡ book_mask b)
-    (size : long ≡ pick (accepts false index s) (length (made_book (plant_of s) (bit_or old back))) 0)
     (wrote : o' ≡ pick (accepts false index s) (over (made_book (plant_of s) (bit_or old back)) o) o) where
   returned_exact : accepts false index s ≡ eqb (withdraw_fault s b back (length o) (length d)) 0
   returned_exact = by_exactly false index s _ (withdraw_left s b back (length o) (length d) h)
@@ -172,19 +179,21 @@ module _ (index s b : List ℕ) (back : ℕ) (o d : List ℕ) (old long : ℕ) {
   same = ap (λ (m : ℕ). made_book (plant_of s) (bit_or m back)) mask_is
 
   -- without a book
-  pub return_none : (n : ℕ) {r : Answer} → long ≡ 0 → r ≡ record { number = n; length = 0; drops = 0 }
-      → n ≡ withdraw_fault s b back (length o) (length d) → ReturnSays s b back o o' d d r
+  pub return_none : (n : ℕ) {r : Answer}
+      → None ≡ pick (accepts false index s) (Some (length (made_book (plant_of s) (bit_or old back)))) None
+      → r ≡ record { number = n; length = 0; drops = 0 } → n ≡ withdraw_fault s b back (length o) (length d) → ReturnSays s b back o o' d d r
   return_none n none e en =
       record {
-        writes = writes_none _ long (accepts false index s) _ _ o d returned_exact (rw same at size)
-            (rw same at wrote) n (rw same at (made_long (plant_of s) (bit_or old back))) none e en;
+        writes =
+            writes_none _ (accepts false index s) _ _ o d returned_exact (rw same at wrote) n (rw same at none) e en;
       }
 
   -- with one: the states gained are listed
-  pub return_done : {count : ℕ} {d' : List ℕ} → (long ≡ 0 → ⊥)
+  pub return_done : {long count : ℕ} {d' : List ℕ}
+      → Some long ≡ pick (accepts false index s) (Some (length (made_book (plant_of s) (bit_or old back)))) None
       → count ≡ dropped_count (take long o') b d → d' ≡ written_drops (take long o') b d
       → ReturnSays s b back o o' d d' (record { number = 0; length = long; drops = count })
-  return_done {count} {d'} some ec ed =
+  return_done {long} {count} {d'} some ec ed =
       let p = plant_of s in
       let new = returned_book p b back in
       let ok = withdraw_passes s b back (length o) (length d) h in
@@ -198,8 +207,8 @@ module _ (index s b : List ℕ) (back : ℕ) (o d : List ℕ) (old long : ℕ) {
         rw read at ed ∙ listed.1 ∙ ap (λ (l : List ℕ). over (bytes_of l) d) (sym turned),
       ) in
       record {
-        writes = writes_0 _ long (accepts false index s) _ _ o d returned_exact (rw same at size)
-            (rw same at wrote) some lists;
+        writes =
+            writes_0 _ (accepts false index s) _ _ o d returned_exact (rw same at wrote) (rw same at some) lists;
       }
 
 -- what the call that builds an index answers, by what it wrote

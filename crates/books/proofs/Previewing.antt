@@ -11,7 +11,13 @@ use Rattle.statements.specs.Plants.{word, plant_of}
 use Rattle.statements.specs.Books.{book_count, withdrawn_book}
 use Rattle.sets.proofs.Over.{over_first}
 use Rattle.decoding.proofs.Faults.{preview_as_longest}
-use Rattle.promises.specs.declared.Answer.{Answer}
+use Rattle.std.specs.Prelude.{Result, Err}
+use borrow.Author.Tests.{ne_eqb}
+use Rattle.refusal.specs.declared.Refusal.{Refusal}
+use Rattle.refusal.specs.Numbers.{number_of}
+use Rattle.refusal.proofs.Refused.{some_refusal}
+use Rattle.promises.specs.declared.Preview.{Preview}
+use Rattle.promises.specs.Answers.{Answer, answer_of, cost_of}
 use Rattle.promises.specs.Says.{WithdrawSays, PreviewSays}
 use Rattle.books.proofs.Made.{withdrawn_long}
 
@@ -40,3 +46,17 @@ preview_done {s} {b} {gone} {o} {o'} {d} {d'} {r} kept says long zeros e =
       kept = e ∙ kept_is (eqb r.number 0) new o o' (withdrawn_long (plant_of s) b gone) zeros says.writes.book;
       list = says.writes.list;
     }
+
+-- refused: the number, and 0 in the other fields
+pub preview_refused : {s b : List ℕ} {gone : ℕ} {o o' d d' : List ℕ} (r : Result Preview Refusal) (why : Refusal)
+    → r ≡ Err why → WithdrawSays s b gone o o' d d' (answer_of (Err why)) → length o ≡ 34832
+    → PreviewSays s b gone d d' (cost_of r)
+preview_refused {s} {b} {gone} {o} {o'} {d} {d'} r why e says long =
+    let none = ne_eqb (number_of why) 0 (some_refusal why) in
+    rw e
+    (record {
+      number = says.writes.number ∙ sym (preview_as_longest s b gone (length o) (length d) long);
+      drops = says.writes.drops;
+      kept = rw none;
+      list = says.writes.list;
+    })

@@ -14,7 +14,7 @@ use Rattle.sets.proofs.Tests.{same_test, and_true, and_left, and_iff}
 use Rattle.decoding.proofs.Faults.{first_iff, when_iff}
 use Rattle.decoding.proofs.Indexed.{same_iff, by_parts}
 use Rattle.graph.specs.Packed.{lent, accepts}
-use Rattle.promises.specs.declared.Answer.{Answer}
+use Rattle.promises.specs.Answers.{Answer}
 use Rattle.promises.specs.Says.{Writes, Says}
 use Rattle.books.specs.Ways.{number_by, make_ask, withdraw_ask}
 

@@ -1,6 +1,6 @@
 // The public calls that write a book: make one, withdraw moves from it, once or by a list, or see what that would cost,
 // return moves to it; and the one that writes the index of a plant.
-#![tactic(auto)]
+#![tactic(auto, using(demands::proofs::Demand2::demand_2, demands::proofs::Demand3::demand_3, demands::proofs::InTurn::in_turn_lem, demands::proofs::Returning::returning, demands::proofs::ByIndex::by_index_lem, demands::proofs::Elsewhere::elsewhere, promises::proofs::Written::demand_2_written, promises::proofs::Traces::demand_3_traced, promises::proofs::InTurn::in_turn_traced, promises::proofs::Returning::returning_traced, promises::proofs::Indexed::indexed, promises::proofs::Elsewhere::elsewhere_traced, promises::proofs::Previewed::previewed, crate::proofs::Answered::drops_listed))]
 
 mod make;
 mod start;
@@ -10,6 +10,8 @@ ghost use Rattle.std.specs.Prelude.{◌≡◌};
 ghost use Rattle.statements.specs.Demands.{Demand2, Demand3, InTurn, Returning};
 ghost use Rattle.statements.specs.ByIndex.{ByIndex};
 ghost use Rattle.statements.specs.Elsewhere.{Elsewhere};
+ghost use Rattle.refusal.specs.Numbers.{fault_of};
+ghost use Rattle.promises.specs.Answers.{answer_of, cost_of};
 ghost use Rattle.promises.specs.Says.{MakeSays, WithdrawSays, WithdrawListSays, ReturnSays, IndexSays, PreviewSays};
 ghost use Rattle.promises.specs.Says.{MakeIndexedSays, WithdrawIndexedSays, Listed, Determined};
 ghost use Rattle.promises.specs.Written.{Demand2Written};
@@ -21,22 +23,23 @@ ghost use Rattle.promises.specs.Indexed.{Indexed};
 ghost use Rattle.promises.specs.Elsewhere.{ElsewhereTraced};
 
 use graph::Way;
-use promises::{Answer, Cost};
+use promises::{Preview, Wrote};
+use refusal::Refusal;
 
-// The answer of a call that is refused.
-fn refused(number: u8) -> Answer
-    ensures { result ≡ record { number = number; length = 0; drops = 0 } }
+// What a call answers that writes nothing, by what its checks say.
+fn refused(checked: Result<(), Refusal>) -> Result<Wrote, Refusal>
+    ensures { answer_of result ≡ record { number = fault_of checked; length = 0; drops = 0 } }
 {
-    Answer {
-        number: number,
+    checked?;
+    Ok(Wrote {
         length: 0,
         drops: 0,
-    }
+    })
 }
 
 // Takes a plant, a mask and a book buffer. Writes the book and returns its length.
-pub fn make_book(plant: &[u8], mask: u32, out: &mut [u8]) -> Answer
-    ensures make_says { MakeSays plant.now mask out.old out.new result }
+pub fn make_book(plant: &[u8], mask: u32, out: &mut [u8]) -> Result<Wrote, Refusal>
+    ensures make_says { MakeSays plant.now mask out.old out.new (answer_of result) }
     ensures make_right { Demand2 }
     ensures make_written { Demand2Written }
     ensures make_afresh { Demand3 }
@@ -49,18 +52,15 @@ pub fn make_book(plant: &[u8], mask: u32, out: &mut [u8]) -> Answer
     if !refusals::make_ahead(plant, mask, room) {
         return refused(refusals::make(plant, mask, room));
     }
-    let way = Way {
-        indexed: false,
-        mask: mask,
-    };
-    make::carry_out(plant, &plant[..0], way, out)
+    let way = Way { index: None, mask };
+    make::carry_out(plant, way, out)
 }
 
 // Takes a plant, its index, a mask and a book buffer. Writes the very book that is made without the index and returns
 // its length.
-pub fn make_indexed(plant: &[u8], index: &[u8], mask: u32, out: &mut [u8]) -> Answer
+pub fn make_indexed(plant: &[u8], index: &[u8], mask: u32, out: &mut [u8]) -> Result<Wrote, Refusal>
     ensures make_indexed_says { MakeIndexedSays plant.now index.now mask
-        out.old out.new result }
+        out.old out.new (answer_of result) }
     ensures make_indexed_right { Demand2 }
     ensures make_indexed_written { Demand2Written }
     ensures make_indexed_afresh { Demand3 }
@@ -76,10 +76,10 @@ pub fn make_indexed(plant: &[u8], index: &[u8], mask: u32, out: &mut [u8]) -> An
         return refused(refusals::make_by(plant, index, mask, room));
     }
     let way = Way {
-        indexed: true,
-        mask: mask,
+        index: Some(index),
+        mask,
     };
-    make::carry_out(plant, index, way, out)
+    make::carry_out(plant, way, out)
 }
 
 // Takes a plant, a book, a mask of moves to withdraw, a book buffer and a drop buffer. Writes the book and, by rising
@@ -90,9 +90,9 @@ pub fn withdraw_moves(
     mask: u32,
     out: &mut [u8],
     drops: &mut [u8],
-) -> Answer
+) -> Result<Wrote, Refusal>
     ensures withdraw_says { WithdrawSays plant.now book.now mask
-        out.old out.new drops.old drops.new result }
+        out.old out.new drops.old drops.new (answer_of result) }
     ensures withdraw_right { Demand2 }
     ensures withdraw_written { Demand2Written }
     ensures withdraw_afresh { Demand3 }
@@ -103,7 +103,7 @@ pub fn withdraw_moves(
     if !refusals::withdraw_ahead(plant, book, mask, out.len(), drops.len()) {
         return refused(refusals::withdraw(plant, book, mask, out.len(), drops.len()));
     }
-    withdraw::carry_out(plant, &plant[..0], false, book, mask, out, drops)
+    withdraw::carry_out(plant, None, book, mask, out, drops)
 }
 
 // Takes a plant, its index, a book, a mask of moves to withdraw, a book buffer and a drop buffer. Writes the very book
@@ -115,9 +115,9 @@ pub fn withdraw_indexed(
     mask: u32,
     out: &mut [u8],
     drops: &mut [u8],
-) -> Answer
+) -> Result<Wrote, Refusal>
     ensures withdraw_indexed_says { WithdrawIndexedSays plant.now index.now book.now mask
-        out.old out.new drops.old drops.new result }
+        out.old out.new drops.old drops.new (answer_of result) }
     ensures withdraw_indexed_right { Demand2 }
     ensures withdraw_indexed_written { Demand2Written }
     ensures withdraw_indexed_afresh { Demand3 }
@@ -130,7 +130,7 @@ pub fn withdraw_indexed(
     if !refusals::withdraw_ahead(plant, book, mask, out.len(), drops.len()) {
         return refused(refusals::withdraw_by(plant, index, book, mask, out.len(), drops.len()));
     }
-    withdraw::carry_out(plant, index, true, book, mask, out, drops)
+    withdraw::carry_out(plant, Some(index), book, mask, out, drops)
 }
 
 // Takes a plant, a book, a list of up to 16 masks of moves to withdraw, four bytes each, a book buffer and a drop
@@ -143,9 +143,9 @@ pub fn withdraw_list(
     masks: &[u8],
     out: &mut [u8],
     drops: &mut [u8],
-) -> Answer
+) -> Result<Wrote, Refusal>
     ensures withdraw_list_says { WithdrawListSays plant.now book.now masks.now
-        out.old out.new drops.old drops.new result }
+        out.old out.new drops.old drops.new (answer_of result) }
     ensures list_written { Demand2Written }
     ensures list_afresh { Demand3 }
     ensures list_traced { Demand3Traced }
@@ -157,7 +157,7 @@ pub fn withdraw_list(
         return refused(refusals::withdraw_list(plant, book, masks, out.len(), drops.len()));
     }
     let gone = format::word::union(masks);
-    withdraw::carry_out(plant, &plant[..0], false, book, gone, out, drops)
+    withdraw::carry_out(plant, None, book, gone, out, drops)
 }
 
 // Takes a plant, a book, a mask of moves to return, a book buffer and a drop buffer. Writes the book of a make with the
@@ -169,9 +169,9 @@ pub fn return_moves(
     mask: u32,
     out: &mut [u8],
     gained: &mut [u8],
-) -> Answer
+) -> Result<Wrote, Refusal>
     ensures return_says { ReturnSays plant.now book.now mask
-        out.old out.new gained.old gained.new result }
+        out.old out.new gained.old gained.new (answer_of result) }
     ensures return_written { Demand2Written }
     ensures return_afresh { Demand3 }
     ensures return_traced { Demand3Traced }
@@ -185,24 +185,22 @@ pub fn return_moves(
     }
     let old = rows::mask(book);
     let way = Way {
-        indexed: false,
+        index: None,
         mask: old | mask,
     };
-    let length = make::book(plant, &plant[..0], way, out);
-    if length == 0 {
+    let Some(length) = make::book(plant, way, out) else {
         return refused(refusals::withdraw(plant, book, mask, room, gained.len()));
-    }
+    };
     let count = writing::dropped(&out[..length as usize], book, gained);
-    Answer {
-        number: 0,
-        length: length,
+    Ok(Wrote {
+        length,
         drops: count,
-    }
+    })
 }
 
 // Takes a plant and a buffer. Writes the plant's index and returns its length.
-pub fn index_plant(plant: &[u8], out: &mut [u8]) -> Answer
-    ensures index_says { IndexSays plant.now out.old out.new result }
+pub fn index_plant(plant: &[u8], out: &mut [u8]) -> Result<Wrote, Refusal>
+    ensures index_says { IndexSays plant.now out.old out.new (answer_of result) }
     ensures index_ways { ByIndex }
     ensures index_against_plain { Indexed }
     ensures index_determined { Determined }
@@ -211,28 +209,31 @@ pub fn index_plant(plant: &[u8], out: &mut [u8]) -> Answer
     if !index::write(plant, out) {
         return refused(refusals::indexing(plant, room));
     }
-    let long = 8 + 2 * (format::word::number(plant, 3) as u32);
-    Answer {
-        number: 0,
+    let long = 8 + 2 * u32::from(format::word::number(plant, 3));
+    Ok(Wrote {
         length: long,
         drops: 0,
-    }
+    })
 }
 
 // Takes a plant, a book, a mask of moves to withdraw and a drop buffer. Writes, by rising number, the states that the
 // withdrawal would drop; returns how many they are and how many it would keep. The withdrawal is made in memory of the
-// call's own, which has room for the longest book and keeps its zeros when it is refused.
-pub fn preview_withdrawal(plant: &[u8], book: &[u8], mask: u32, drops: &mut [u8]) -> Cost
+// call's own, which has room for the longest book.
+pub fn preview_withdrawal(
+    plant: &[u8],
+    book: &[u8],
+    mask: u32,
+    drops: &mut [u8],
+) -> Result<Preview, Refusal>
     ensures preview_says { PreviewSays plant.now book.now mask
-        drops.old drops.new result }
+        drops.old drops.new (cost_of result) }
     ensures preview_agrees { Previews }
     ensures preview_determined { Determined }
 {
     let mut next = [0u8; 34832];
-    let answer = withdraw_moves(plant, book, mask, &mut next, drops);
-    Cost {
-        number: answer.number,
-        drops: answer.drops,
-        kept: format::word::number(&next, 3) as u32,
-    }
+    let written = withdraw_moves(plant, book, mask, &mut next, drops)?;
+    Ok(Preview {
+        drops: written.drops,
+        kept: u32::from(format::word::number(&next, 3)),
+    })
 }

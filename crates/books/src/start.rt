@@ -17,12 +17,10 @@ pub(crate) fn states(plant: &[u8], list: &mut [u16]) -> usize
         ≡ over (numbers (plant_of plant.now).states 0) list.old }
 {
     let count = number(plant, 0);
-    let mut x = 0;
-    while x < count {
-        list[x as usize] = x;
-        x += 1;
+    for x in 0..count {
+        list[usize::from(x)] = x;
     }
-    count as usize
+    usize::from(count)
 }
 
 // Lists the states that a book keeps; returns how many they are. Its header says that, and the list is filled from that
@@ -33,13 +31,11 @@ pub(crate) fn kept(book: &[u8], list: &mut [u16]) -> usize
     ensures number { result ≡ length (book_kept book.now) }
     ensures list { list.new ≡ over (book_kept book.now) list.old }
 {
-    let count = number(book, 3) as usize;
-    let mut at = count;
-    let mut x = number(book, 0);
+    let count = usize::from(number(book, 3));
     let stages = staged(book);
-    while 0 < x {
-        x -= 1;
-        let lost = lost_in(book, stages, x as u32);
+    let mut at = count;
+    for x in (0..number(book, 0)).rev() {
+        let lost = lost_in(book, stages, u32::from(x));
         if !lost {
             at -= 1;
             list[at] = x;
@@ -52,11 +48,7 @@ pub(crate) fn kept(book: &[u8], list: &mut [u16]) -> usize
 fn label_of(labels: &[u16], state: u16) -> u16
     ensures { result ≡ get_or labels.now state 0 }
 {
-    let x = state as usize;
-    if x < labels.len() {
-        return labels[x];
-    }
-    0
+    labels.get(usize::from(state)).copied().unwrap_or(0)
 }
 
 // Strikes out the states whose label has no bit 0. Each state is written to its place and counted off again if it is
@@ -69,14 +61,13 @@ fn strike_out(labels: &[u16], list: &mut [u16], count: usize) -> usize
         (take count list.old) }
 {
     let mut kept = count;
-    let mut k = 0;
-    while k < count {
+    for k in 0..count {
         let state = list[k];
         list[k - (count - kept)] = state;
-        if !bit_at(label_of(labels, state) as u32, 0) {
+        let stays = bit_at(u32::from(label_of(labels, state)), 0);
+        if !stays {
             kept -= 1;
         }
-        k += 1;
     }
     kept
 }

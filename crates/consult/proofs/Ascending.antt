@@ -1,7 +1,7 @@
 -- The arrows of an accepted plant ascend, so bisection finds where those from a rank on begin, and those of one state
 -- stand together.
 -- Assumes nothing.
-use mathlib.Core.Path.{◌≡◌, ap, ◌∙◌, subst}
+use mathlib.Core.Path.{◌≡◌, subst}
 use mathlib.Core.Bool.{true}
 use mathlib.Core.List.{List, ◌∷◌}
 use Prim.Native.Nat.{ℕ, zero, suc, ◌+◌, ◌-◌, ◌*◌, ◌≤◌, ◌<◌}
@@ -12,7 +12,6 @@ use borrow.Author.Tests.{ltb-true, leb-true}
 use Rattle.statements.specs.Plants.{word, Arrow, plant_of, rank, arrows_ok, plant_fault}
 use Rattle.sets.proofs.Tests.{and_iff}
 use Rattle.decoding.proofs.Faults.{plant_tests, plant_ok}
-use Rattle.format.specs.declared.arrows.Arrow.{Arrow as ReadArrow}
 use Rattle.format.specs.Arrows.{arrow_in, arrows_left}
 use Rattle.format.proofs.Stored.{as_arrow, left_more}
 use Rattle.consult.specs.Checks.{rank_in, Reaches, Begins}
@@ -82,11 +81,6 @@ module _ (s : List ℕ) (fine : plant_fault s ≡ 0) where
   ascends j k h e =
       let there : j + (k - j) ≡ k = omega arith in
       subst (λ (m : ℕ). rank_in s j + (k - j) ≤ rank_in s m) there (rank_later j (k - j) (omega arith))
-
--- the rank of an arrow that was read
-pub rank_read : (s : List ℕ) (k : ℕ) {r : ℕ} {a : ReadArrow} → a ≡ arrow_in s k
-    → r ≡ 65536 * (65536 * a.from) + (65536 * a.action + a.to) → r ≡ rank_in s k
-rank_read s k e told = told ∙ ap (λ (a : ReadArrow). 65536 * (65536 * a.from) + (65536 * a.action + a.to)) e
 
 -- bisection: the arrows before arrow low are of a lower rank than x, and those from arrow high on are not
 pub record Between (s : List ℕ) (x low high : ℕ) : Type 0 where

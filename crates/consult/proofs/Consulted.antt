@@ -1,6 +1,6 @@
 -- Consulting a book, with the plant or without it, and handing back a row, case by case: refused, lost, kept; and what a
 -- call for all good moves is given. Assumes nothing.
-use mathlib.Core.Path.{◌≡◌, sym, ap₂, ◌∙◌, subst}
+use mathlib.Core.Path.{◌≡◌, refl, sym, ap₂, ◌∙◌, subst}
 use mathlib.Core.Bool.{true, false}
 use mathlib.Core.List.{List}
 use Prim.Native.Nat.{ℕ, ◌+◌, ◌-◌, ◌<◌}
@@ -13,8 +13,13 @@ use Rattle.statements.specs.Books.{row_place, row_long, wait_at, move_at, is_los
 use Rattle.statements.specs.Calls.{lent_fault, consult_fault, moves_fault, row_part}
 use Rattle.decoding.proofs.Faults.{first_iff, lent_ok}
 use Rattle.decoding.proofs.Asked.{moves_fine}
-use Rattle.promises.specs.declared.Advice.{Advice}
-use Rattle.promises.specs.Says.{accepted, keeps, Advises, ConsultSays}
+use Rattle.std.specs.Prelude.{Option, Result, Err}
+use Rattle.refusal.specs.declared.Refusal.{Refusal}
+use Rattle.refusal.specs.Numbers.{number_of}
+use Rattle.refusal.proofs.Refused.{some_refusal}
+use Rattle.promises.specs.declared.NextMove.{NextMove}
+use Rattle.promises.specs.Answers.{Advice, advice_of, mask_of}
+use Rattle.promises.specs.Says.{accepted, keeps, Advises, ConsultSays, MovesSays}
 use Rattle.promises.proofs.Rows.{row_given}
 
 -- a refused call gives no advice
@@ -32,6 +37,18 @@ advises_refused {n} e h quiet =
       wait = rw no quiet.3;
       seek = rw no quiet.4;
     }
+
+-- refused: the number, and no advice
+pub silent : (why : Refusal) → Silent (number_of why) (advice_of (Err why))
+silent why = (refl, refl, refl, refl, refl)
+
+pub silent_err : (r : Result (Option NextMove) Refusal) (why : Refusal) → r ≡ Err why
+    → Silent (advice_of r).number (advice_of r)
+silent_err r why e = rw e (silent why)
+
+pub refused_advice : {n : ℕ} {b : List ℕ} {x i : ℕ} (r : Result (Option NextMove) Refusal) (why : Refusal)
+    → r ≡ Err why → number_of why ≡ n → Advises n b x i (advice_of r)
+refused_advice r why e f = rw e (advises_refused f (some_refusal why) (silent why))
 
 -- consult's own advice, and that of a call that is accepted where consult is
 module _ {b : List ℕ} {x i : ℕ} {r : Advice} where
@@ -95,3 +112,9 @@ unfolding moves_fault
 moves_given s b x i e =
     let lent = lent_ok s b ((first_iff (lent_fault s b) _).0 e).0 in
     (lent.plant, omega (arith, (moves_fine b x i s e).state, lent.states))
+
+-- refused, such a call gives no moves
+pub refused_moves : {s b : List ℕ} {x i : ℕ} (r : Result ℕ Refusal) (why : Refusal) → r ≡ Err why
+    → number_of why ≡ moves_fault s b x i → MovesSays s b x i (mask_of r)
+refused_moves r why e f =
+    rw e (record { number = f; mask = rw (ne_eqb (number_of why) 0 (some_refusal why)) })

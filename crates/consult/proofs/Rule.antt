@@ -1,13 +1,13 @@
 -- Where a move may lead by the rule of an entry, as a test of one state. Assumes nothing.
 use mathlib.Core.Path.{◌≡◌, refl, sym, ap, ◌∙◌}
 use mathlib.Core.Logic.{⊎_elim}
-use mathlib.Core.Bool.{Bool, true, false, ◌&&◌, ◌||◌, not, or-false}
+use mathlib.Core.Bool.{Bool, true, false, ◌||◌, not, or-false}
 use mathlib.Core.List.{List}
-use Prim.Native.Nat.{ℕ, ◌≤◌, ◌<◌}
+use Prim.Native.Nat.{ℕ}
 use native.Mathlib.Decide.{dec_lt}
 use native.Mathlib.Omega.{arith}
 use lib.Dec.{eqb, ltb}
-use borrow.Author.Tests.{ltb-true, lt-ltb, le-ltb, ltb-false}
+use borrow.Author.Tests.{ltb-true, lt-ltb, ltb-false}
 use Rattle.statements.specs.Sets.{bit, bits, first, numbers, is_in, filter}
 use Rattle.statements.specs.Plants.{Plant, goes_into, move_into, moves_into, can}
 use Rattle.statements.specs.Books.{book_states, book_mask, staged, stage_at, wait_at, is_lost, book_kept, nearer_in, earlier_in}
@@ -17,19 +17,6 @@ use Rattle.sets.proofs.Members.{filter_holds, filter_in, filter_same, numbers_ho
 use Rattle.sets.proofs.First.{first_holds, first_before}
 use Rattle.sets.proofs.Bits.{bit_none, bits_at, bits_past, all_bits}
 use Rattle.consult.specs.Checks.{closer, nearer_than, leads_in}
-
--- the test of a number past the last state, and of a state
-module _ (b : List ℕ) (stage wait i : ℕ) (early : Bool) (y : ℕ) where
-  pub nearer_past : book_states b ≤ y → nearer_than b stage wait i early y ≡ false
-  unfolding nearer_than
-  nearer_past h = rw (le-ltb y (book_states b) h)
-
-  pub nearer_state : y < book_states b
-      → nearer_than b stage wait i early y
-      ≡ (not (is_lost b y) && (ltb (stage_at b y) stage
-      || (not early && (eqb (stage_at b y) stage && (eqb wait 0 || ltb (wait_at b y i) wait)))))
-  unfolding nearer_than closer
-  nearer_state h = rw (lt-ltb y (book_states b) h)
 
 module _ (b : List ℕ) (early : Bool) (x i y : ℕ) where
   -- the states that the book keeps, and those of them that are near enough

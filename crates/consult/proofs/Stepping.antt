@@ -16,7 +16,7 @@ use Rattle.sets.proofs.Tests.{decided}
 use Rattle.winning.proofs.Goals.{arrive_below}
 use Rattle.decoding.proofs.Faults.{first_iff, first_given, first_passed, lent_ok}
 use Rattle.decoding.proofs.Asked as asked
-use Rattle.promises.specs.declared.Advice.{Advice}
+use Rattle.promises.specs.Answers.{Advice}
 use Rattle.promises.specs.Says.{Advises, ConsultSays, step_fault, StepSays}
 use Rattle.consult.proofs.Consulted.{Silent, advises_refused, advises_fine, moves_given}
 

@@ -13,10 +13,10 @@ use Rattle.statements.specs.Plants.{plant_of, ends}
 use Rattle.statements.specs.Books.{is_lost, arrive}
 use Rattle.statements.specs.Calls.{consult_fault, moves_fault}
 use Rattle.sets.proofs.Tests.{decided, same_number, not_both}
-use Rattle.promises.specs.declared.Advice.{Advice}
+use Rattle.promises.specs.Answers.{Advice}
 use Rattle.promises.specs.Says.{accepted, keeps, ConsultSays, Advises, step_fault, Determined}
 use Rattle.promises.specs.Steps.{Steps}
-use Rattle.desk.specs.declared.Desk.{Desk}
+use Rattle.desk.specs.Desk.{Desk}
 use Rattle.desk.specs.Desk.{strays, report_fault, goal_held, StartSays, ReportSays, Answering}
 use Rattle.desk.proofs.Answers.{lost_is, action_is, seek_is, goal_kept, goal_lost, fault_before, fault_after}
 use Rattle.desk.proofs.Answers.{strays_lost, strays_kept}

@@ -12,8 +12,7 @@ use Rattle.statements.specs.Plants.{first_of, when, plant_of, ends}
 use Rattle.statements.specs.Books.{move_at, is_lost, arrive}
 use Rattle.statements.specs.Calls.{moves_fault}
 use Rattle.sets.proofs.Tests.{decided, not_both}
-use Rattle.promises.specs.declared.Advice.{Advice}
-use Rattle.promises.specs.declared.Stepped.{Stepped}
+use Rattle.promises.specs.Answers.{Advice, Stepped}
 use Rattle.promises.specs.Says.{Advises, step_fault, StepSays}
 use Rattle.promises.specs.Steps.{Steps}
 use Rattle.desk.specs.Desk.{strays, report_fault, goal_held, StartSays, ReportSays}

@@ -5,8 +5,8 @@ use mathlib.Core.List.{List}
 use Prim.Native.Nat.{ℕ, zero, suc, ◌<◌}
 use native.Mathlib.Omega.{arith}
 use lib.Dec.{eqb}
-use Rattle.promises.specs.declared.Advice.{Advice}
-use Rattle.desk.specs.declared.Desk.{Desk}
+use Rattle.promises.specs.Answers.{Advice}
+use Rattle.desk.specs.Desk.{Desk}
 use Rattle.desk.specs.Desk.{strays, report_fault, goal_held, StartSays, ReportSays}
 use Rattle.desk.specs.MarkedDesk.{plant_turns, book_turns, book_other, plant_settled, book_settled, answers}
 use Rattle.desk.specs.MarkedDesk.{MarkedDesk}

@@ -16,7 +16,7 @@ use Rattle.statements.specs.Strategies.{InGoal}
 use Rattle.sets.proofs.Tests.{same_number}
 use Rattle.promises.specs.Says.{Advises, Determined}
 use Rattle.promises.specs.Steps.{Guides, Steps}
-use Rattle.desk.specs.declared.Desk.{Desk}
+use Rattle.desk.specs.Desk.{Desk}
 use Rattle.desk.specs.Desk.{strays, report_fault, goal_held, StartSays, ReportSays, Answering}
 use Rattle.desk.specs.Followed.{Session, state_at, sought_at, MetBy, Followed, Following}
 use Rattle.desk.proofs.Against.{answering}

@@ -4,9 +4,18 @@ use Rattle.statements.specs.Sets.{pick, is_in}
 use Rattle.statements.specs.Plants.{first_of, when, plant_of, ends}
 use Rattle.statements.specs.Books.{move_at, is_lost, arrive}
 use Rattle.statements.specs.Calls.{moves_fault}
-use Rattle.promises.specs.declared.Advice.{Advice}
+use Rattle.promises.specs.Answers.{Advice, advice_of}
 use Rattle.promises.specs.Says.{ConsultSays, Advises, step_fault}
-use Rattle.desk.specs.declared.Desk.{Desk}
+use Rattle.desk.specs.declared.AtDesk.{AtDesk}
+
+-- what start and report answer, with every field: the advice for the state that the desk is in, and what it holds
+pub record Desk : Type 0 where
+  pub advice : Advice
+  pub state : ℕ
+  pub goal : ℕ
+
+abbrev pub desk_of : AtDesk → Desk
+desk_of d = record { advice = advice_of d.advice; state = d.state; goal = d.goal }
 
 -- state x is lost in the book b handed in, or state y is not the end of an arrow of the move that consult gives there
 -- for x and goal i

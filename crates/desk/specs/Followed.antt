@@ -6,7 +6,7 @@ use Rattle.statements.specs.Plants.{plant_of, ends, available}
 use Rattle.statements.specs.Books.{book_mask, is_lost, goal_after, passes, arrive}
 use Rattle.statements.specs.Strategies.{InGoal}
 use Rattle.promises.specs.Steps.{WrittenFor}
-use Rattle.desk.specs.declared.Desk.{Desk}
+use Rattle.desk.specs.Desk.{Desk}
 use Rattle.desk.specs.Desk.{StartSays, ReportSays}
 
 -- a start and m reports, plant and book unchanged: each report is handed what the desk held, and is correct: it is the

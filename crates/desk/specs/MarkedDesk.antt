@@ -2,7 +2,7 @@
 use Rattle.std.specs.Prelude.{true, false, List, [], ◌∷◌, ℕ, zero, suc}
 use Rattle.statements.specs.Books.{bytes_of}
 use Rattle.statements.specs.Marked.{plant_p, book_m1, book_m9}
-use Rattle.desk.specs.declared.Desk.{Desk}
+use Rattle.desk.specs.Desk.{Desk}
 use Rattle.desk.specs.Desk.{StartSays, ReportSays}
 use Rattle.desk.specs.Followed.{Session}
 

@@ -5,4 +5,5 @@ pub mod Unions
 pub mod Header
 pub mod Parts
 pub mod Stored
+pub mod Stores
 pub mod Faults

@@ -2,7 +2,7 @@
 use mathlib.Core.Path.{◌≡◌, refl, sym, ap, ◌∙◌}
 use mathlib.Core.Bool.{Bool, true, false, ◌&&◌, and_assoc}
 use mathlib.Core.Bool.{and-true as and_yes}
-use mathlib.Core.List.{List, ◌∷◌}
+use mathlib.Core.List.{List, [], ◌∷◌}
 use Prim.Native.Nat.{ℕ, zero, suc, ◌+◌, ◌-◌, ◌*◌, ◌^◌, ◌≤◌, ◌<◌}
 use native.Mathlib.Nat.{le_refl, not-suc-le-zero, le_of_suc-le-suc, add-zero}
 use native.Mathlib.Numerals.{add-one}
@@ -16,7 +16,7 @@ use Rattle.statements.specs.Plants.{word, Arrow, words, plant_of, arrows_from, l
 use Rattle.sets.proofs.Over.{copy_more}
 use Rattle.decoding.proofs.Faults.{words_length}
 use Rattle.format.specs.declared.arrows.Arrow.{Arrow as ReadArrow}
-use Rattle.format.specs.Arrows.{arrow_in}
+use Rattle.format.specs.Arrows.{arrow_from, plant_arrow}
 use Rattle.format.specs.Checks.{least_after}
 use Rattle.format.proofs.Words.{word_further}
 use Rattle.format.proofs.Bits.{low_or, picked_or, low_none}
@@ -85,12 +85,8 @@ module _ (free : Bool) (goals : ℕ) where
     abbrev pub Rest : ℕ → ℕ → Bool
     Rest at left = labels_ok free goals (words left (drop at s))
 
-    -- none is joined
-    pub labels_start : (at left : ℕ) → Rest at left ≡ Low 0 && Rest at left
-    labels_start at left = sym (ap (λ (t : Bool). t && Rest at left) (low_none free (suc goals)))
-
     -- the next one is joined
-    pub labels_join : (all at left l : ℕ) → 0 < left → l ≡ word 0 (drop at s)
+    labels_join : (all at left l : ℕ) → 0 < left → l ≡ word 0 (drop at s)
         → Low all && Rest at left ≡ Low (bit_or all l) && Rest (at + 2) (left - 1)
     unfolding labels_ok
     labels_join all at left l more is =
@@ -100,10 +96,32 @@ module _ (free : Bool) (goals : ℕ) where
         ∙ sym (and_assoc (Low all) (Low l) _)
         ∙ ap (λ (t : Bool). t && Rest (at + 2) (left - 1)) (sym (low_joined all l))
 
-    -- all are joined
-    pub labels_end : (all at left : ℕ) → left ≤ 0 → Low all && Rest at left ≡ Low all
-    unfolding labels_ok words
-    labels_end all at left none = let e : left ≡ 0 = omega arith in rw e (and_yes (Low all))
+    module _ (count : ℕ) where
+      -- the first k labels are joined
+      abbrev pub Joined : ℕ → ℕ → Type 0
+      Joined k all = Rest 16 count ≡ Low all && Rest (16 + 2 * k) (count - k)
+
+      -- none is
+      pub labels_start : Joined 0 0
+      labels_start =
+          let place : 16 + 2 * 0 ≡ 16 = omega arith in
+          let left : count - 0 ≡ count = omega arith in
+          rw (place, left) (sym (ap (λ (t : Bool). t && Rest 16 count) (low_none free (suc goals))))
+
+      -- one more
+      pub labels_next : (k all l : ℕ) → k < count → l ≡ word 0 (drop (16 + 2 * k) s) → Joined k all
+          → Joined (k + 1) (bit_or all l)
+      labels_next k all l more is j =
+          let place : 16 + 2 * k + 2 ≡ 16 + 2 * (k + 1) = omega arith in
+          let left : count - k - 1 ≡ count - (k + 1) = omega arith in
+          rw (← place, ← left) (j ∙ labels_join all (16 + 2 * k) (count - k) l (omega arith) is)
+
+      -- all are
+      pub labels_end : (k all : ℕ) → count ≤ k → Joined k all → Low all ≡ Rest 16 count
+      unfolding labels_ok words
+      labels_end k all done j =
+          let left : count - k ≡ 0 = omega arith in
+          sym (rw left at j ∙ and_yes (Low all))
 
 -- the least rank after an arrow, told from its own rank
 pub least_is : (states moves least : ℕ) (a : ReadArrow) {r : ℕ}
@@ -123,66 +141,53 @@ passed_by : (b : Bool) (r : ℕ) → pick b (r + 1) 0 ≡ 0 → b ≡ false
 passed_by true r h = let z : ⊥ = omega (arith, h) in absurd z
 passed_by false r h = refl
 
--- a loop over a plant's arrows, by their numbers: while some are left, the next one is tested and the rest stand for
--- all
-module _ (states moves : ℕ) (s : List ℕ) (count : ℕ) where
-  -- the arrows from arrow k on are in range and ascend from `least`
-  abbrev pub Ascend : ℕ → ℕ → Bool
-  Ascend k least =
-      arrows_ok states moves least (arrows_from (count - k) (drop (16 + 2 * word 0 s + 6 * k) s))
+-- no arrow is left
+pub none_left : (n : ℕ) (s : List ℕ) → n ≡ 0 → arrows_from n s ≡ []
+unfolding arrows_from
+none_left n s e = rw e refl
 
-  -- from the first arrow on they are all
-  pub arrows_start : arrows_ok states moves 0 (arrows_from count (drop (16 + 2 * word 0 s) s)) ≡ Ascend 0 0
-  arrows_start =
-      let place = 16 + 2 * word 0 s in
-      let n : count ≡ count - 0 = omega arith in
-      let p : place ≡ place + 6 * 0 = omega arith in
-      ap (λ (m : ℕ). arrows_ok states moves 0 (arrows_from m (drop place s))) n
-      ∙ ap (λ (m : ℕ). arrows_ok states moves 0 (arrows_from (count - 0) (drop m s))) p
+-- the arrow that starts at a place, and those after it
+pub arrow_taken : (s : List ℕ) (at n : ℕ) → 0 < n
+    → arrows_from n (drop at s) ≡ plant_arrow (arrow_from s at) ∷ arrows_from (n - 1) (drop (at + 6) s)
+unfolding arrow_from
+arrow_taken s at n more =
+    ap (λ (m : ℕ). arrows_from m (drop at s)) (one_less n more) ∙ arrows_more s at (n - 1)
 
-  -- none is left
-  pub arrows_end : (k least : ℕ) → count ≤ k → Ascend k least ≡ true
-  unfolding arrows_ok arrows_from
-  arrows_end k least none = let e : count - k ≡ 0 = omega arith in rw e
+-- a loop over a plant's arrows: the next one is tested, and the rest stand for all
+module _ (states moves : ℕ) where
+  -- from no arrow on they ascend
+  pub ascend_end : (least : ℕ) (left : List Arrow) → left ≡ [] → arrows_ok states moves least left ≡ true
+  unfolding arrows_ok
+  ascend_end least left none = rw none refl
 
-  module _ (k least : ℕ) (more : k < count) where
-    -- what is told of the next arrow: the least rank after it
-    abbrev Least : ℕ
-    Least = least_after states moves least (arrow_in s k)
-
+  module _ (least : ℕ) (a : ReadArrow) (rest : List Arrow) where
     -- the rank of the next arrow
     abbrev Rank : ℕ
-    Rank =
-        let a = arrow_in s k in
-        65536 * (65536 * a.from) + (65536 * a.action + a.to)
+    Rank = 65536 * (65536 * a.from) + (65536 * a.action + a.to)
 
     -- it is in range and ascends
     abbrev First : Bool
-    First =
-        let a = arrow_in s k in
-        ltb a.from states && (ltb a.action moves && (ltb a.to states && leb least Rank))
+    First = ltb a.from states && (ltb a.action moves && (ltb a.to states && leb least Rank))
 
     -- one turn: the next arrow, and those after it
-    arrows_turn : Ascend k least ≡ First && Ascend (k + 1) (Rank + 1)
-    unfolding arrows_ok rank arrow_in
-    arrows_turn =
-        let place = 16 + 2 * word 0 s + 6 * k in
-        let n : count - k ≡ suc (count - (k + 1)) = omega arith in
-        let p : place + 6 ≡ 16 + 2 * word 0 s + 6 * (k + 1) = omega arith in
-        ap (λ (m : ℕ). arrows_ok states moves least (arrows_from m (drop place s))) n
-        ∙ ap (arrows_ok states moves least) (arrows_more s place (count - (k + 1)))
-        ∙ simp (p, and_assoc, add-one)
+    ascend_turn : arrows_ok states moves least (plant_arrow a ∷ rest) ≡ First && arrows_ok states moves (Rank + 1) rest
+    unfolding arrows_ok rank
+    ascend_turn = simp (and_assoc, add-one)
 
     -- the next arrow passes
-    pub arrows_pass : (Least ≡ 0 → ⊥) → Ascend k least ≡ Ascend (k + 1) Least
+    pub ascend_pass : (least_after states moves least a ≡ 0 → ⊥)
+        → arrows_ok states moves least (plant_arrow a ∷ rest)
+        ≡ arrows_ok states moves (least_after states moves least a) rest
     unfolding least_after
-    arrows_pass good =
+    ascend_pass good =
         let e = picked First Rank good in
-        arrows_turn
-        ∙ ap (λ (b : Bool). b && Ascend (k + 1) (Rank + 1)) e
-        ∙ sym (ap (λ (b : Bool). Ascend (k + 1) (pick b (Rank + 1) 0)) e)
+        ascend_turn
+        ∙ ap (λ (b : Bool). b && arrows_ok states moves (Rank + 1) rest) e
+        ∙ sym (ap (λ (b : Bool). arrows_ok states moves (pick b (Rank + 1) 0) rest) e)
 
     -- it fails
-    pub arrows_fail : Least ≡ 0 → Ascend k least ≡ false
+    pub ascend_fail : least_after states moves least a ≡ 0
+        → arrows_ok states moves least (plant_arrow a ∷ rest) ≡ false
     unfolding least_after
-    arrows_fail bad = arrows_turn ∙ ap (λ (b : Bool). b && Ascend (k + 1) (Rank + 1)) (passed_by First Rank bad)
+    ascend_fail bad =
+        ascend_turn ∙ ap (λ (b : Bool). b && arrows_ok states moves (Rank + 1) rest) (passed_by First Rank bad)

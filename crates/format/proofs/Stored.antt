@@ -15,12 +15,12 @@ use Rattle.statements.specs.Sets.{cons_if}
 use Rattle.statements.specs.Plants.{word, Arrow, arrows_from, plant_of, ends_in}
 use Rattle.decoding.proofs.Order.{arrows_length}
 use Rattle.format.specs.declared.arrows.Arrow.{Arrow as ReadArrow}
-use Rattle.format.specs.Arrows.{arrow_in, arrows_left}
+use Rattle.format.specs.Arrows.{arrow_in, arrows_left, plant_arrow}
 use Rattle.format.proofs.Parts.{arrow_at, arrows_more}
 
 -- an arrow that was read
 abbrev pub as_arrow : ReadArrow → Arrow
-as_arrow a = record { from = a.from; move = a.action; to = a.to }
+as_arrow a = plant_arrow a
 
 -- the arrow at a place, and those after it
 arrows_at : (s : List ℕ) (at n k : ℕ) → k < n

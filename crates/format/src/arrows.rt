@@ -1,11 +1,8 @@
-// The arrows of a plant, read one after another in their stored order. The reader holds the plant's bytes and a place;
-// the work is done on the slice and the number, by `arrow_in` where the bytes are known to be there and by `arrow_at`
-// for any bytes. The check of a plant takes one reader from the first arrow to the last. All other code calls `read`,
-// the reader at a place; but the passes of crates layout and index, which know where the arrows stand, read the bytes
-// themselves.
-ghost use Rattle.std.specs.Prelude.{◌≡◌, ◌+◌, ◌*◌, ◌<◌, ◌≤◌, ◌^◌, length};
-ghost use Rattle.statements.specs.Plants.{word};
-ghost use Rattle.format.specs.Arrows.{arrow_in};
+// The arrows of a plant: each at its place, for any bytes, and one after another where the bytes are known to be there.
+ghost use Rattle.std.specs.Prelude.{◌≡◌, ◌+◌, ◌*◌, ◌≤◌, length, drop};
+ghost use Rattle.std.specs.Iterator.{YieldsFirstBy, at_most};
+ghost use Rattle.statements.specs.Plants.{word, arrows_from};
+ghost use Rattle.format.specs.Arrows.{arrow_in, arrow_from, plant_arrow};
 
 use crate::word::{number, word_at, word_in};
 
@@ -17,75 +14,79 @@ pub struct Arrow {
     pub to: u16,
 }
 
-// A place among a plant's arrows.
-#[derive(Clone, Copy)]
-pub struct Arrows<'a> {
-    pub plant: &'a [u8],
-    pub at: u16,
-}
-
-// Arrow k of a plant, whose six bytes are all within the slice.
-pub(crate) fn arrow_in(plant: &[u8], k: u16) -> Arrow
-    requires { 16 + 2 * word 0 plant.now + 6 * k + 6 ≤ length plant.now }
-    ensures { result ≡ arrow_in plant.now k }
+// The arrow whose six bytes start at a place, all within the slice.
+pub(crate) fn arrow_in(plant: &[u8], place: usize) -> Arrow
+    requires { place + 6 ≤ length plant.now }
+    ensures { result ≡ arrow_from plant.now place }
 {
-    let place = 16 + 2 * (number(plant, 0) as usize) + 6 * (k as usize);
     let from = word_in(plant, place);
     let action = word_in(plant, place + 2);
     let to = word_in(plant, place + 4);
-    Arrow {
-        from: from,
-        action: action,
-        to: to,
-    }
+    Arrow { from, action, to }
 }
 
 // Arrow k of a plant; bytes past the end count as 0.
+#[tactic(auto, unfolding(crate::specs::Arrows::arrow_in, crate::specs::Arrows::arrow_from))]
 pub fn arrow_at(plant: &[u8], k: u16) -> Arrow
     ensures { result ≡ arrow_in plant.now k }
 {
-    let place = 16 + 2 * (number(plant, 0) as usize) + 6 * (k as usize);
+    let place = 16 + 2 * usize::from(number(plant, 0)) + 6 * usize::from(k);
     if place + 6 <= plant.len() {
-        return arrow_in(plant, k);
+        return arrow_in(plant, place);
     }
     let from = word_at(plant, place);
     let action = word_at(plant, place + 2);
     let to = word_at(plant, place + 4);
-    Arrow {
-        from: from,
-        action: action,
-        to: to,
-    }
+    Arrow { from, action, to }
 }
 
-// A reader of a plant's arrows, at a place.
-pub fn new<'a>(plant: &'a [u8], at: u16) -> Arrows<'a>
-    ensures { (result.plant ≡ plant.entry) × (result.at ≡ at) }
-{
-    Arrows { plant, at }
-}
-
-// The arrow at the reader's place.
-pub fn next<'a>(arrows: Arrows<'a>) -> Arrow
-    ensures { result ≡ arrow_in arrows.entry.plant.now arrows.entry.at }
-{
-    arrow_at(arrows.plant, arrows.at)
-}
-
-// The reader at the place after its own.
-pub(crate) fn after<'a>(arrows: Arrows<'a>) -> Arrows<'a>
-    requires { arrows.at + 1 < 2 ^ 16 }
-    ensures { (result.plant ≡ arrows.entry.plant) × (result.at ≡ arrows.entry.at + 1) }
-{
-    Arrows {
-        plant: arrows.plant,
-        at: arrows.at + 1,
-    }
-}
-
-// Arrow k of a plant, through the reader.
+// The arrow at a place among those of a plant, for all code outside the check of plants.
 pub fn read(plant: &[u8], k: u16) -> Arrow
     ensures { result ≡ arrow_in plant.now k }
 {
-    next(new(plant, k))
+    arrow_at(plant, k)
+}
+
+// A reader of a plant's arrows: it holds the plant's bytes, the place of the next arrow among them, and how many arrows
+// are left.
+#[derive(Drop)]
+pub struct Arrows<'a> {
+    plant: &'a [u8],
+    at: usize,
+    left: u16,
+    ghost there: { at + 6 * left ≤ length plant.now },
+}
+
+impl<'a> Arrows<'a> {
+    // The first arrows of a plant, as many as given, which are all within the slice.
+    pub(crate) fn new(plant: &'a [u8], count: u16) -> Arrows<'a>
+        requires { 16 + 2 * word 0 plant.now + 6 * count ≤ length plant.now }
+        ensures { arrows_from result.left (drop result.at result.plant.now)
+            ≡ arrows_from count (drop (16 + 2 * word 0 plant.now) plant.now) }
+    {
+        let at = 16 + 2 * usize::from(number(plant, 0));
+        Arrows {
+            plant,
+            at,
+            left: count,
+        }
+    }
+}
+
+impl Iterator for Arrows<'_> {
+    type Item = Arrow;
+
+    ghost next_gives = { YieldsFirstBy plant_arrow (λ r. arrows_from r.left (drop r.at r.plant.now)) };
+
+    ghost remaining = { λ r. at_most r.left };
+
+    fn next(&mut self) -> Option<Arrow> {
+        if self.left == 0 {
+            return None;
+        }
+        let arrow = arrow_in(self.plant, self.at);
+        self.at += 6;
+        self.left -= 1;
+        Some(arrow)
+    }
 }

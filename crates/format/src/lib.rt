@@ -8,20 +8,24 @@ pub mod plant;
 pub mod word;
 
 ghost use Rattle.std.specs.Prelude.{◌≡◌};
+ghost use Rattle.refusal.specs.Numbers.{fault_of};
 ghost use Rattle.statements.specs.Plants.{plant_fault};
 
-// What is wrong with a plant: 1 its header, 2 a label, 3 an arrow; 0 for a plant that is accepted.
-pub fn plant_fault(plant: &[u8]) -> u8
-    ensures { result ≡ plant_fault plant.now }
+use refusal::Refusal;
+
+// Accepts a plant, or says what is wrong with it: its header, a label or an arrow.
+#[tactic(auto, using(crate::proofs::Faults::fault_1, crate::proofs::Faults::fault_2, crate::proofs::Faults::fault_3, crate::proofs::Faults::no_plant_fault))]
+pub fn check_plant(plant: &[u8]) -> Result<(), Refusal>
+    ensures { fault_of result ≡ plant_fault plant.now }
 {
     if !plant::head_ok(plant) {
-        return 1;
+        return Err(Refusal::Plant);
     }
     if !plant::labels_ok(plant) {
-        return 2;
+        return Err(Refusal::Label);
     }
     if !plant::arrows_ok(plant) {
-        return 3;
+        return Err(Refusal::Arrow);
     }
-    0
+    Ok(())
 }

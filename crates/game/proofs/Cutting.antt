@@ -4,49 +4,21 @@ use mathlib.Core.Path.{◌≡◌, refl, ap, sym, ◌∙◌}
 use mathlib.Core.Bool.{Bool, true, false, ◌&&◌, not}
 use mathlib.Core.List.{List, [], ◌∷◌, ◌++◌, append-nil}
 use mathlib.Core.Logic.{⊎_elim}
-use Prim.Native.Nat.{ℕ, zero, suc, ◌+◌, ◌-◌, ◌*◌, ◌<◌, ◌≤◌}
-use native.Mathlib.Nat.{mul-le-mul_right, zero-add}
+use Prim.Native.Nat.{ℕ, zero, suc, ◌+◌, ◌-◌, ◌<◌, ◌≤◌}
+use native.Mathlib.Nat.{zero-add}
 use native.Mathlib.Numerals.{add-one}
 use native.Mathlib.Omega.{arith}
-use borrow.Author.Tests.{eqb-true, eq-eqb, ne_eqb, lt-ltb, le-ltb, ltb-true}
+use borrow.Author.Tests.{eqb-true, eq-eqb, lt-ltb, ltb-true}
 use lib.Dec.{eqb, ltb}
 use lib.ListN.{length, get_or, take, set, length-set, length-append}
 use lib.Seq.{take-length, take-suc, length-take-le}
 use Rattle.statements.specs.Sets.{numbers, is_in, filter, cons_if, over}
 use Rattle.sets.proofs.Tests.{decided, and_true, and_left, and_right, same_test}
 use Rattle.sets.proofs.Members.{Sifted, filter_snoc, filter_length, filter_parts, numbers_more}
-use Rattle.sets.proofs.Numbers.{every_all, every_none}
 use Rattle.sets.proofs.Over.{over_none, over_back, over_at_lem, over_one}
-use Rattle.arrays.proofs.Sieves.{Sieved, sieve_start, sieve_yes, sieve_no, sieve_end}
-use Rattle.game.specs.Cuts.{others, waits_all}
+use Rattle.arrays.proofs.Sieves.{Sieved, sieve_start, sieve_yes, sieve_no, sieved_end}
+use Rattle.game.specs.Cuts.{others}
 use Rattle.game.proofs.Counts.{count_most, take_in}
-
--- the place of a node's wait for a goal
-pub wait_place : (n goals i x : ℕ) → i < goals → x < n → i * n + x < goals * n
-wait_place n goals i x h l = let p = mul-le-mul_right {m = suc i} {n = goals} n h in omega arith
-
--- a wait for each goal, or none for one
-module _ (waits : List ℕ) (n goals x : ℕ) where
-  pub waits_no : (i : ℕ) → i < goals → get_or waits (i * n + x) 0 ≡ 65535 → false ≡ waits_all waits n goals x
-  unfolding waits_all
-  waits_no i h e =
-      sym (every_none goals 0 (λ k. not (eqb (get_or waits (k * n + x) 0) 65535)) i (omega arith) (omega arith)
-      (rw (eq-eqb (get_or waits (i * n + x) 0) 65535 e)))
-
-  pub waits_yes : ((i : ℕ) → i < goals → get_or waits (i * n + x) 0 ≡ 65535 → ⊥) → true ≡ waits_all waits n goals x
-  unfolding waits_all
-  waits_yes h =
-      sym (every_all goals 0 (λ k. not (eqb (get_or waits (k * n + x) 0) 65535))
-      (λ k low high. rw (ne_eqb (get_or waits (k * n + x) 0) 65535 (h k (omega arith)))))
-
--- whether a number stands at a place
-module _ (list : List ℕ) (place number : ℕ) where
-  pub at_within : place < length list
-      → eqb (get_or list place 0) number ≡ (ltb place (length list) && eqb (get_or list place 0) number)
-  at_within h = rw (lt-ltb place (length list) h)
-
-  pub at_past : length list ≤ place → false ≡ (ltb place (length list) && eqb (get_or list place 0) number)
-  at_past h = rw (le-ltb place (length list) h)
 
 -- what stands at a place is a member
 pub place_in : (xs : List ℕ) (k : ℕ) → k < length xs → is_in (get_or xs k 0) xs ≡ true
@@ -172,13 +144,6 @@ module _ {f : ℕ → Bool} {count : ℕ} {old new : List ℕ} {kept k : ℕ} (r
 
   pub sieved_in : is_in (get_or new k 0) (take count old) ≡ true
   sieved_in = rw sieved_same (take_in count k old more r.room)
-
--- a sieved list's front
-pub sieved_end : {f : ℕ → Bool} {count : ℕ} {old new : List ℕ} {kept k : ℕ} → Sieved f count old new kept k → count ≤ k
-    → (kept ≡ length (filter f (take count old))) × (take kept new ≡ filter f (take count old))
-sieved_end {f} {count} {old} {kept = kept} r h =
-    let end = sieve_end r (omega (arith, r.within)) in
-    (end.0, rw end.1 (over_back (filter f (take count old)) old kept end.0))
 
 -- a list is cut down to the nodes that pass a test, and the others are listed
 pub record Cutting (f : ℕ → Bool) (count : ℕ) (old gone₀ new gone : List ℕ) (kept k : ℕ) : Type 0 where

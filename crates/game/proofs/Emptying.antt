@@ -3,25 +3,25 @@
 use mathlib.Core.Path.{◌≡◌, refl, sym, ap, ◌∙◌}
 use mathlib.Core.Logic.{⊎_elim}
 use mathlib.Core.Bool.{Bool, true, false, ◌&&◌, ◌||◌, not}
-use mathlib.Core.List.{List, [], ◌∷◌, ◌++◌}
+use mathlib.Core.List.{List, [], ◌∷◌}
 use Prim.Native.Nat.{ℕ, ◌+◌, ◌-◌, ◌≤◌, ◌<◌}
 use native.Mathlib.Omega.{arith}
 use native.Mathlib.Numerals.{add-one}
 use borrow.Author.Tests.{eq-eqb, ne_eqb, ltb-true, leb-true}
 use lib.Dec.{eqb, ltb, leb}
-use lib.ListN.{length, get_or, take, drop, set, length-set}
-use lib.Seq.{get_or-set_same, get_or-set_other, take-suc, take_all, take-take, take-suc-set, get_or-take, get_or-drop}
+use lib.ListN.{length, get_or, take, drop, set, length-drop}
+use lib.Seq.{get_or-set_same, get_or-set_other, take-suc, take_all, take-take, get_or-take, get_or-drop, length-take-le}
 use Rattle.statements.specs.Sets.{is_in}
 use Rattle.sets.proofs.Tests.{decided, same_number, not_both, and_true, and_left, and_right, or_right}
-use Rattle.sets.proofs.Iterate.{sifted_few}
+use Rattle.sets.proofs.Iterate.{sifted_few, sifted_below}
 use Rattle.game.specs.Walked.{nodes, node_at}
 use Rattle.game.specs.Packed.{part, places_in, groups_in, rev_in, starts_in}
 use Rattle.game.specs.Marks.{ends_at, without}
 use Rattle.game.specs.Playing.{Ready}
 use Rattle.game.specs.Draining.{Unmarked, Draining, Taken, Grown, Fails}
 use Rattle.game.proofs.Counts.{or_false, in_take, take_in, is_in_append}
-use Rattle.game.proofs.Nodes.{in_range, node_iff, node_is}
-use Rattle.game.proofs.Parts.{rev_length, starts_nodes}
+use Rattle.game.proofs.Nodes.{in_range, node_iff, node_is, starts_rise}
+use Rattle.game.proofs.Parts.{rev_end, rev_length, starts_end, starts_nodes}
 use Rattle.game.proofs.Deaths.{other_tests}
 use Rattle.game.proofs.Strikes.{in_without, without_holds, without_in, apart_both}
 use Rattle.game.proofs.Strikes.{struck, struck_now, struck_else, struck_none}
@@ -39,54 +39,30 @@ next_in list k y h =
       or_false (eqb y (get_or list k 0)),
     )
 
--- the first `tail` nodes of a list are put on a worklist
-pub record Loading (gone member₀ list₀ member list : List ℕ) (tail : ℕ) : Type 0 where
-  pub within : tail ≤ length gone
-  pub member_size : length member ≡ length member₀
-  pub list_size : length list ≡ length list₀
-  pub front : take tail list ≡ take tail gone
-  pub marks : Unmarked (take tail gone) member₀ member
-
--- none yet
-pub load_start : (gone member list : List ℕ) → Loading gone member list member list 0
+-- the marks of the first i nodes of a list are taken away: of none yet, of one more, and of all
+pub unmark_none : (gone member : List ℕ) → Unmarked (take 0 gone) member member
 unfolding is_in
-load_start gone member list =
-    record { within = omega arith; member_size = refl; list_size = refl; front = refl; marks = λ y. refl }
+unmark_none gone member y = refl
 
-module _ {gone member₀ list₀ member list : List ℕ} {tail : ℕ} (c : Loading gone member₀ list₀ member list tail) where
-  -- one more
-  pub load_more : tail < length gone → length gone ≤ length list₀ → get_or gone tail 0 < length member₀
-      → Loading gone member₀ list₀ (set member (get_or gone tail 0) 65535) (set list tail (get_or gone tail 0)) (tail + 1)
-  load_more h room low =
-      let x = get_or gone tail 0 in
-      record {
-        within = omega arith;
-        member_size = length-set member x 65535 ∙ c.member_size;
-        list_size = length-set list tail x ∙ c.list_size;
-        front =
-            rw (add-one tail)
-            (take-suc-set list tail x (omega (arith, c.list_size))
-            ∙ (ap (λ (l : List ℕ). l ++ (x ∷ [])) c.front ∙ sym (take-suc gone tail 0 h)));
-        marks = λ y.
-            ⊎_elim
-            (λ q.
-            let there : is_in y (take (tail + 1) gone) ≡ true =
-            next_in gone tail y h ∙ or_right (is_in y (take tail gone)) (eqb y x) (eq-eqb y x q) in
-            rw (there, q) (get_or-set_same member x 65535 0 (omega (arith, c.member_size))))
-            (λ q.
-            let same : is_in y (take (tail + 1) gone) ≡ is_in y (take tail gone) =
-            next_in gone tail y h
-            ∙ (ap (λ (b : Bool). is_in y (take tail gone) || b) (ne_eqb y x q) ∙ or_false (is_in y (take tail gone))) in
-            rw same (get_or-set_other member x y 65535 0 q ∙ c.marks y))
-            (same_number y x);
-      }
+pub unmark_more : (gone old new : List ℕ) (i : ℕ) → Unmarked (take i gone) old new → i < length gone
+    → get_or gone i 0 < length new → Unmarked (take (i + 1) gone) old (set new (get_or gone i 0) 65535)
+unmark_more gone old new i marks h low y =
+    let x = get_or gone i 0 in
+    ⊎_elim
+    (λ q.
+    let there : is_in y (take (i + 1) gone) ≡ true =
+    next_in gone i y h ∙ or_right (is_in y (take i gone)) (eqb y x) (eq-eqb y x q) in
+    rw (there, q) (get_or-set_same new x 65535 0 low))
+    (λ q.
+    let same : is_in y (take (i + 1) gone) ≡ is_in y (take i gone) =
+    next_in gone i y h
+    ∙ (ap (λ (b : Bool). is_in y (take i gone) || b) (ne_eqb y x q) ∙ or_false (is_in y (take i gone))) in
+    rw same (get_or-set_other new x y 65535 0 q ∙ marks y))
+    (same_number y x)
 
-  -- all
-  pub load_end : length gone ≤ tail
-      → (tail ≡ length gone) × ((take tail list ≡ gone) × Unmarked gone member₀ member)
-  load_end h =
-      let all = take_all tail gone h in
-      (omega (arith, c.within), (c.front ∙ all, λ y. rw all at (c.marks y)))
+pub unmark_all : (gone old new : List ℕ) (i : ℕ) → Unmarked (take i gone) old new → length gone ≤ i
+    → Unmarked gone old new
+unmark_all gone old new i marks h y = rw (take_all i gone h) at (marks y)
 
 -- the nodes before one place are among those before a later one
 pub fewer_in : (list : List ℕ) (a b y : ℕ) → a ≤ b → b ≤ length list → is_in y (take a list) ≡ true
@@ -99,6 +75,19 @@ fewer_in list a b y h l m =
 part_at : (a n i : ℕ) (xs : List ℕ) → i < n → get_or (part a n xs) i 0 ≡ get_or xs (a + i) 0
 unfolding part
 part_at a n i xs h = get_or-take (a + n - a) (drop a xs) i 0 (omega arith) ∙ get_or-drop a xs i 0
+
+-- the node at the list's head, and where the array has its positions: from its start up to the next node's
+pub record Off (graph : List ℕ) (n positions : ℕ) (list : List ℕ) (head : ℕ) : Type 0 where
+  pub place : head < length list
+  pub node : get_or list head 0 < n
+  pub inside : length graph - 2049 + (get_or list head 0 + 1) < length graph
+  pub from : get_or graph (length graph - 2049 + get_or list head 0) 0
+      ≡ get_or (starts_in graph n) (get_or list head 0) 0
+  pub to : get_or graph (length graph - 2049 + (get_or list head 0 + 1)) 0
+      ≡ get_or (starts_in graph n) (get_or list head 0 + 1) 0
+  pub up : get_or (starts_in graph n) (get_or list head 0) 0 ≤ get_or (starts_in graph n) (get_or list head 0 + 1) 0
+  pub few : get_or (starts_in graph n) (get_or list head 0 + 1) 0 ≤ positions
+  pub room : places_in (length graph) + positions ≤ length graph
 
 -- the positions before j of the node at the list's head are passed, for whichever set the marks were
 pub record Taking (graph : List ℕ) (n groups positions : ℕ) (member₀ live₀ dead₀ list₀ : List ℕ) (head tail₀ : ℕ)
@@ -153,6 +142,54 @@ module _ (graph : List ℕ) (n groups positions goals : ℕ) (ready : Ready grap
   pub state_few : {ok : ℕ → Bool} {xs first member live dead list : List ℕ} {tail : ℕ}
       → State ok xs first member live dead list tail → tail ≤ length list
   state_few {xs = xs} c = omega (arith, c.number, c.room, sifted_few n xs c.sifted)
+
+  -- the node that is taken off
+  pub off_of : (xs first member live dead list : List ℕ) (head tail : ℕ) → head < tail
+      → Taken graph n groups positions xs first member live dead list head tail → Off graph n positions list head
+  off_of xs first member live dead list head tail some t =
+      let x = get_or list head 0 in
+      let low = sifted_below n xs t.1.sifted x (t.1.inside head some) in
+      let nl = starts_nodes graph ready.fits in
+      record {
+        place = omega (arith, some, state_few t.1);
+        node = low;
+        inside = omega (arith, low, starts_end graph ready.fits);
+        from = start_at x (omega (arith, low));
+        to = start_at (x + 1) (omega (arith, low));
+        up = ready.index.up x (omega (arith, low, nl));
+        few =
+            omega (
+              arith,
+              starts_rise rev starts gs ready.index (x + 1) (nodes starts) (omega (arith, low, nl)) (omega arith),
+              ready.index.last_is,
+              rev_length graph ready.fits,
+            );
+        room = rev_end graph ready.fits;
+      }
+
+  -- the positions from lo up to hi, as a part of the array
+  module _ (p lo hi i : ℕ) (e : p ≡ places_in (length graph)) (up : lo ≤ hi) (few : hi ≤ positions) where
+    abbrev span : List ℕ
+    span = take (p + hi - (p + lo)) (drop (p + lo) graph)
+
+    span_long : length span ≡ hi - lo
+    span_long =
+        length-take-le (p + hi - (p + lo)) (drop (p + lo) graph)
+        (omega (arith, length-drop (p + lo) graph, rev_end graph ready.fits))
+        ∙ omega arith
+
+    pub span_in : i < length span → lo + i < hi
+    span_in h = omega (arith, span_long)
+
+    pub span_past : length span ≤ i → hi ≤ lo + i
+    span_past h = omega (arith, span_long)
+
+    pub span_at : i < length span → get_or span i 0 ≡ get_or rev (lo + i) 0
+    span_at h =
+        let place : p + lo + i ≡ places_in (length graph) + (lo + i) = omega arith in
+        get_or-take (p + hi - (p + lo)) (drop (p + lo) graph) i 0 (omega (arith, span_long))
+        ∙ (get_or-drop (p + lo) graph i 0
+        ∙ (ap (λ (k : ℕ). get_or graph k 0) place ∙ rev_at (lo + i) (omega (arith, span_in h))))
 
   module _ (member₀ live₀ dead₀ list₀ : List ℕ) (head tail₀ : ℕ) (some : head < tail₀)
       (below : get_or list₀ head 0 < n) where

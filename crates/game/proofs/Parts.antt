@@ -15,14 +15,6 @@ fresh_made room filler size h =
     let all : length (replicate size filler) ≡ size = length-replicate size filler in
     record { long = omega arith; all = λ t l. get_or-replicate size t filler 0 (omega arith) }
 
--- the arrays that a game is worked out in
-pub arrays_made : (groups size : ℕ) → groups ≤ size
-    → Fresh groups 0 (replicate size 0)
-    × (Fresh groups 0 (replicate size 0) × Fresh (groups + 8) 65535 (replicate (size + 8) 65535))
-arrays_made groups size h =
-    let zeros = fresh_made groups 0 size h in
-    (zeros, (zeros, fresh_made (groups + 8) 65535 (size + 8) (omega arith)))
-
 -- a part's length
 part_length : (a n : ℕ) (xs : List ℕ) → a + n ≤ length xs → length (part a n xs) ≡ n
 unfolding part

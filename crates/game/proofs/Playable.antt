@@ -19,8 +19,9 @@ use Rattle.arrays.specs.Lists.{rising}
 use Rattle.arrays.proofs.Ordered.{rising_sifted}
 use Rattle.game.specs.Walked.{nodes, ordered, all_below}
 use Rattle.game.specs.Steps.{Index}
-use Rattle.game.specs.Packed.{places_in, groups_in, rev_in, starts_in, roomy_for, hypergraph, sound_in, playable}
-use Rattle.game.specs.Playing.{Fits, Ready, Tested, Worked, Played}
+use Rattle.std.specs.Prelude.{Some, None}
+use Rattle.game.specs.Packed.{part, places_in, groups_in, rev_in, starts_in, roomy_for, hypergraph, sound_in, playable}
+use Rattle.game.specs.Playing.{Fits, Ready, Tested, Worked, Played, Sized}
 use Rattle.game.proofs.Counts.{count_none, count_zero, in_take}
 use Rattle.game.proofs.Checks.{below_at}
 use Rattle.game.proofs.Aiming.{listed}
@@ -183,12 +184,21 @@ module _ (graph : List ℕ) (n groups positions goals : ℕ) (start : List ℕ) 
           full = λ g h. every_at groups 0 (λ k. is_in k (rev_in graph positions)) full g (omega arith) (omega arith);
         }
 
+-- the positions of each group are counted, from the part of the array where they stand
+pub sized_of : (graph : List ℕ) (groups positions : ℕ) (room : ℕ) {p : ℕ} {new : List ℕ}
+    → p ≡ places_in (length graph) → groups ≤ room → length new ≡ room
+    → Holds room (count_of (part p positions graph) (length (part p positions graph))) new
+    → Sized graph groups positions new
+unfolding rev_in
+sized_of graph groups positions room e long same holds =
+    record { long = omega (arith, long, same); counted = λ t h. (rw e at holds) t (omega (arith, long)) }
+
 -- what is answered where a test fails, and where all hold
 module _ (graph : List ℕ) (n groups positions goals : ℕ) (start old : List ℕ) where
   pub unplayable : playable graph n groups positions goals start (length old) ≡ false
-      → Worked graph n groups positions goals start old 0 old
+      → Worked graph n groups positions goals start old None old
   unplayable e = record { kept = rw e; waits = rw e }
 
   pub played : playable graph n groups positions goals start (length old) ≡ true → (r : ℕ) (w : List ℕ)
-      → Played graph n groups positions goals start old r w → Worked graph n groups positions goals start old r w
-  played e r w is = record { kept = rw e is.number; waits = rw e is.waits }
+      → Played graph n groups positions goals start old r w → Worked graph n groups positions goals start old (Some r) w
+  played e r w is = record { kept = rw e (ap Some is.number); waits = rw e is.waits }

@@ -22,7 +22,7 @@ use Rattle.game.specs.Cuts.{waits_all}
 use Rattle.game.specs.Draining.{GoesOn}
 use Rattle.game.specs.Playing.{Ready, Fresh, Played, Reached, SoughtIn, Standing, Rest, last_eight}
 use Rattle.game.proofs.Attractors.{Sub}
-use Rattle.game.proofs.Parts.{groups_length, starts_nodes, fresh_made}
+use Rattle.game.proofs.Parts.{groups_length, starts_nodes}
 use Rattle.game.proofs.Rounds.{all_holds, cut_round}
 use Rattle.game.proofs.Drained.{Rises, attracted_moves, Reduced, round_reduced, reduced_still, forced_held}
 use Rattle.game.proofs.Playing.{Round, round_begin, round_next, columns_over}
@@ -136,15 +136,6 @@ module _ (graph : List ℕ) (nodes groups positions goals : ℕ) where
           member_long = lm;
           live_long = ll;
         }
-
-    -- what is asked when the set begins
-    pub set_begins : (start dead : List ℕ) → Sifted (numbers nodes 0) start → Fresh groups 0 dead
-        → Ready graph nodes groups positions goals
-        × (Sifted (numbers nodes 0) start
-        × (Fresh nodes 65535 (replicate 1024 65535) × (Fresh nodes 0 (replicate 1024 0) × Fresh groups 0 dead)))
-    set_begins start dead s f =
-        let few = ready.fits.few_nodes in
-        (ready, (s, (fresh_made nodes 65535 1024 few, (fresh_made nodes 0 1024 few, f))))
 
     -- more nodes to go on into, and none
     pub rises : Rises can

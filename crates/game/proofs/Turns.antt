@@ -111,8 +111,52 @@ module _ (rev starts gs member w₀ q₀ : List ℕ) (head : ℕ) (e : Ready rev
           pass_miss rev starts gs member w₀ q₀ head (get_or q₀ head 0) (get_or w₀ (get_or q₀ head 0) 0) e.index e.node
           refl e.in_queue e.alone cnt w q tail j (get_or rev j 0) h refl c _ refl (λ y. z (m.back y))
 
-pub pass_to : (rev starts gs member w₀ q₀ : List ℕ) (head t v : ℕ) (cnt : List ℕ) {w q w' q' : List ℕ}
-    {tail tail' j : ℕ} → w ≡ w' → q ≡ q' → tail ≡ tail'
-    → Pass rev starts gs member w₀ q₀ head t v cnt w' q' tail' j
-    → Pass rev starts gs member w₀ q₀ head t v cnt w q tail j
-pass_to rev starts gs member w₀ q₀ head t v cnt a b d p = rw (a, b, d) p
+-- the turn at a place of the groups with an end at the node at the queue's head
+pub record Turning (rev starts gs member w₀ q₀ : List ℕ) (head : ℕ) (cnt w q : List ℕ) (tail g i : ℕ) : Type 0 where
+  pub in_gs : g < length gs
+  pub in_counts : g < length cnt
+  pub some : 0 < get_or cnt g 0
+  pub small : get_or gs g 0 < 1024
+  pub in_waits : get_or gs g 0 < length w
+  pub in_member : get_or gs g 0 < length member
+  pub few : tail ≤ 1024
+  pub room : (r : ℕ) → Misses (get_or cnt g 0 - 1) (get_or w (get_or gs g 0) 0) (get_or member (get_or gs g 0) 0) r
+      → r ≡ 0 → tail < length q
+  pub hit : (r : ℕ) → Misses (get_or cnt g 0 - 1) (get_or w (get_or gs g 0) 0) (get_or member (get_or gs g 0) 0) r
+      → r ≡ 0
+      → Pass rev starts gs member w₀ q₀ head (get_or q₀ head 0) (get_or w₀ (get_or q₀ head 0) 0)
+      (set cnt g (get_or cnt g 0 - 1)) (set w (get_or gs g 0) (get_or w₀ (get_or q₀ head 0) 0 + 1))
+      (set q tail (get_or gs g 0)) (tail + 1) (get_or starts (get_or q₀ head 0) 0 + (i + 1))
+  pub miss : (r : ℕ) → Misses (get_or cnt g 0 - 1) (get_or w (get_or gs g 0) 0) (get_or member (get_or gs g 0) 0) r
+      → (r ≡ 0 → ⊥)
+      → Pass rev starts gs member w₀ q₀ head (get_or q₀ head 0) (get_or w₀ (get_or q₀ head 0) 0)
+      (set cnt g (get_or cnt g 0 - 1)) w q tail (get_or starts (get_or q₀ head 0) 0 + (i + 1))
+
+pub turning : {rev starts gs member w₀ q₀ : List ℕ} {head tail₀ : ℕ} {cnt₀ : List ℕ} → Index rev starts gs
+    → Rooms starts gs member cnt₀ w₀ q₀ → head < tail₀
+    → Walking rev starts gs member w₀ cnt₀ w₀ q₀ head tail₀ → {cnt w q : List ℕ} {tail i : ℕ}
+    → Pass rev starts gs member w₀ q₀ head (get_or q₀ head 0) (get_or w₀ (get_or q₀ head 0) 0) cnt w q tail
+    (get_or starts (get_or q₀ head 0) 0 + i)
+    → (items : List ℕ) → get_or starts (get_or q₀ head 0) 0 + length items ≡ get_or starts (get_or q₀ head 0 + 1) 0
+    → ((k : ℕ) → k < length items → get_or items k 0 ≡ get_or rev (get_or starts (get_or q₀ head 0) 0 + k) 0)
+    → i < length items → Turning rev starts gs member w₀ q₀ head cnt w q tail (get_or items i 0) i
+turning {rev} {starts} {gs} {member} {w₀} {q₀} {head} {tail₀} {cnt₀} x r l k {cnt} {w} {q} {tail} {i} c items number
+    groups less =
+    let e = ready rev starts gs member cnt₀ w₀ q₀ head tail₀ x r l k in
+    let lo : ℕ = get_or starts (get_or q₀ head 0) 0 in
+    let h : lo + i < get_or starts (get_or q₀ head 0 + 1) 0 = omega arith in
+    let next : lo + (i + 1) ≡ lo + i + 1 = omega arith in
+    let t = turn rev starts gs member w₀ q₀ head e cnt w q tail (lo + i) c h in
+    rw (groups i less)
+    (record {
+      in_gs = t.in_gs;
+      in_counts = t.in_counts;
+      some = t.some;
+      small = t.small;
+      in_waits = t.in_waits;
+      in_member = t.in_member;
+      few = t.few;
+      room = turn_room rev starts gs member w₀ q₀ head e cnt w q tail (lo + i) c h;
+      hit = λ r m z. rw next (turn_hit rev starts gs member w₀ q₀ head e cnt w q tail (lo + i) c h r m z);
+      miss = λ r m z. rw next (turn_miss rev starts gs member w₀ q₀ head e cnt w q tail (lo + i) c h r m z);
+    })

@@ -1,5 +1,5 @@
 -- What the turns of a game hand on to each other: which waits are worked out for which set. Assumes nothing.
-use Rattle.std.specs.Prelude.{◌≡◌, ◌⊎◌, Bool, true, ◌&&◌, List, ℕ, ◌+◌, ◌-◌, ◌*◌, ◌≤◌, ◌<◌, ltb, length, get_or, take, drop}
+use Rattle.std.specs.Prelude.{◌≡◌, ◌⊎◌, Option, Some, None, Bool, true, ◌&&◌, List, ℕ, ◌+◌, ◌-◌, ◌*◌, ◌≤◌, ◌<◌, ltb, length, get_or, take, drop}
 use Rattle.statements.specs.Sets.{numbers, is_in, over, pick}
 use Rattle.sets.proofs.Members.{Sifted}
 use Rattle.sort.specs.Steps.{Holds, count_of}
@@ -29,12 +29,12 @@ pub record Tested (graph : List ℕ) (nodes groups positions goals : ℕ) (start
   pub roomy : roomy_for nodes groups positions goals (length graph) waits ≡ true
   pub sound : sound_in graph nodes groups positions start ≡ true
 
--- what is answered: how many nodes are left, and their waits; 0 and no waits for a game that cannot be worked out
-pub record Worked (graph : List ℕ) (nodes groups positions goals : ℕ) (start old : List ℕ) (count : ℕ) (new : List ℕ)
-    : Type 0 where
+-- what is answered: how many nodes are left, and their waits; no number and no waits for a game that cannot be worked out
+pub record Worked (graph : List ℕ) (nodes groups positions goals : ℕ) (start old : List ℕ) (count : Option ℕ)
+    (new : List ℕ) : Type 0 where
   pub kept : count
       ≡ pick (playable graph nodes groups positions goals start (length old))
-      (length (held_in graph nodes groups positions goals start)) 0
+      (Some (length (held_in graph nodes groups positions goals start))) None
   pub waits : new
       ≡ pick (playable graph nodes groups positions goals start (length old))
       (over (waits_in graph nodes groups positions goals (held_in graph nodes groups positions goals start)) old) old

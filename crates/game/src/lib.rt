@@ -2,6 +2,7 @@
 // rounds that strike nodes out. It knows nothing of plants.
 #![tactic(auto)]
 
+mod links;
 pub mod play;
 mod reach;
 mod strike;
@@ -15,6 +16,7 @@ ghost use Rattle.game.specs.Steps.{Index, Rooms, Walking, Misses, possible};
 ghost use Rattle.game.specs.Packed.{places_in};
 
 // How many groups, and how many positions, a packed game of so many numbers has room for.
+#[tactic(auto, unfolding(crate::specs::Packed::places_in))]
 pub fn places(length: usize) -> usize
     ensures { result ≡ places_in length }
 {
@@ -31,11 +33,9 @@ fn rising(starts: &[u16], positions: usize) -> bool
     ensures { result ≡ ordered starts.now positions }
 {
     let n = starts.len() - 1;
-    let mut t = 0;
     let mut good = true;
-    while t < n {
-        good = good & (starts[t] <= starts[t + 1]);
-        t += 1;
+    for t in 0..n {
+        good &= starts[t] <= starts[t + 1];
     }
     good & ((starts[0] == 0) & (starts[n] as usize == positions))
 }
@@ -44,11 +44,9 @@ fn rising(starts: &[u16], positions: usize) -> bool
 fn below(xs: &[u16], limit: u16) -> bool
     ensures { result ≡ all_below xs.now limit }
 {
-    let mut i = 0;
     let mut good = true;
-    while i < xs.len() {
-        good = good & (xs[i] < limit);
-        i += 1;
+    for x in xs {
+        good &= *x < limit;
     }
     good
 }
@@ -61,11 +59,8 @@ fn tally(rev: &[u16], counts: &mut [u16])
     ensures { Holds (length counts.old) (count_of rev.now (length rev.now))
         counts.new }
 {
-    let mut a = 0;
-    while a < rev.len() {
-        let g = rev[a] as usize;
-        counts[g] = counts[g] + 1;
-        a += 1;
+    for g in rev {
+        counts[*g as usize] += 1;
     }
 }
 
@@ -75,17 +70,16 @@ fn most(n: usize, member: &[u16], waits: &[u16]) -> usize
     ensures { result ≡ length (possible n member.now waits.now) }
 {
     let mut count: u16 = 0;
-    let mut x = 0;
-    while x < n {
+    for x in 0..n {
         if (member[x] < 1) | (waits[x] < 1) {
             count += 1;
         }
-        x += 1;
     }
-    count as usize
+    usize::from(count)
 }
 
 // 0 where no end of the group is left, its node has the mark, and it is in the set.
+#[tactic(auto, using(crate::proofs::Bits::misses_or))]
 fn misses(left: u16, old: u16, out: u16) -> u16
     ensures { Misses left old out result }
 {
@@ -97,84 +91,4 @@ fn misses(left: u16, old: u16, out: u16) -> u16
 struct Line {
     head: usize,
     tail: usize,
-}
-
-// Takes the node at the queue's head: the counter of a group goes down for each of the node's positions.
-fn pop(
-    rev: &[u16],
-    starts: &[u16],
-    gs: &[u16],
-    member: &[u16],
-    counts: &mut [u16],
-    waits: &mut [u16],
-    queue: &mut [u16],
-    line: Line,
-) -> usize
-    requires { Index rev.now starts.now gs.now
-        × Rooms starts.now gs.now member.now counts.old waits.old queue.old
-        × (line.head < line.tail)
-        × Walking rev.now starts.now gs.now member.now waits.old counts.old waits.old queue.old
-        line.head line.tail }
-    ensures { Walking rev.now starts.now gs.now member.now
-        waits.old counts.new waits.new queue.new (line.head + 1) result }
-{
-    let head = line.head;
-    let t = queue[head] as usize;
-    let hi = starts[t + 1] as usize;
-    let next = waits[t] + 1;
-    let mut j = starts[t] as usize;
-    let mut end = line.tail;
-    while j < hi {
-        let g = rev[j] as usize;
-        let left = counts[g] - 1;
-        counts[g] = left;
-        let f = gs[g] as usize;
-        if misses(left, waits[f], member[f]) == 0 {
-            waits[f] = next;
-            queue[end] = f as u16;
-            end += 1;
-        }
-        j += 1;
-    }
-    end
-}
-
-// The walk from the nodes in the queue, until it is empty or each node that can have a wait has one.
-fn spread(
-    rev: &[u16],
-    starts: &[u16],
-    gs: &[u16],
-    member: &[u16],
-    counts: &mut [u16],
-    waits: &mut [u16],
-    queue: &mut [u16],
-    start: usize,
-)
-    requires { Index rev.now starts.now gs.now
-        × Rooms starts.now gs.now member.now counts.old waits.old queue.old
-        × Walking rev.now starts.now gs.now member.now waits.old counts.old waits.old queue.old
-        0 start }
-    ensures { waits.new
-        ≡ over (walked_waits gs.now starts.now rev.now member.now
-        waits.old) waits.old }
-{
-    let count = most(starts.len() - 1, member, waits);
-    let mut head = 0;
-    let mut tail = start;
-    while (head < tail) & (tail < count) {
-        tail = pop(
-            rev,
-            starts,
-            gs,
-            member,
-            counts,
-            waits,
-            queue,
-            Line {
-                head: head,
-                tail: tail,
-            },
-        );
-        head += 1;
-    }
 }

@@ -1,7 +1,7 @@
 // A game is played in rounds, each of which reaches every goal from the same set and then strikes out the nodes from
 // which one fails, or in turns, which strike out after each goal. A goal with as many targets as when it was last
 // reached is not reached again: its targets, and so its waits, are the same.
-ghost use Rattle.std.specs.Prelude.{◌≡◌, true, List, ℕ, ◌+◌, ◌*◌, ◌<◌, ◌≤◌, ltb, length, get_or, take};
+ghost use Rattle.std.specs.Prelude.{◌≡◌, Some, None, true, List, ℕ, ◌+◌, ◌*◌, ◌<◌, ◌≤◌, ltb, length, get_or, take};
 ghost use Rattle.statements.specs.Sets.{numbers, every, is_in, filter, over, pick};
 ghost use Rattle.sets.proofs.Members.{Sifted};
 ghost use Rattle.sort.specs.Steps.{Holds};
@@ -13,32 +13,38 @@ ghost use Rattle.game.specs.Draining.{drained_in, Ending};
 ghost use Rattle.game.specs.Playing.{Fits, Ready, Tested, Worked, Fresh, Sized, SoughtIn, Standing, Rest};
 ghost use Rattle.game.specs.Playing.{Prepared, Played, last_eight};
 
+use crate::links::Links;
 use crate::reach::{Figures, aim, offers, reach};
-use crate::strike::{cut, rest, strike};
+use crate::strike::{cut, rest};
 use crate::worklist::shrink_all;
 use crate::{below, places, rising, tally};
 use arrays::{copy, rises};
 
-// How many nodes, groups, positions and goals a game has, and whether nodes are struck out after each goal and, by a
-// worklist, those that then cannot go on. The answers are the same: it saves work where one node after another falls.
+// When nodes are struck out: after a round of all goals, or after each goal's turn and, by a worklist, with those that
+// then cannot go on. The answers are the same: turns save work where one node after another falls.
+#[derive(Clone, Copy)]
+pub enum Order {
+    Rounds,
+    Turns,
+}
+
+// How many nodes, groups, positions and goals a game has, and the order in which it is played.
 #[derive(Clone, Copy)]
 pub struct Shape {
     pub nodes: usize,
     pub groups: usize,
     pub positions: usize,
     pub goals: usize,
-    pub eager: bool,
+    pub order: Order,
 }
 
-// Each number is above 0.
+// Each number is above 0. It goes on past a 0: a loop with no way out in the middle is compiled to vector code.
 fn covered(sizes: &[u16]) -> bool
     ensures { result ≡ every (length sizes.now) 0 (λ g. ltb 0 (get_or sizes.now g 0)) }
 {
-    let mut g = 0;
     let mut good = true;
-    while g < sizes.len() {
-        good = good & (0 < sizes[g]);
-        g += 1;
+    for size in sizes {
+        good &= 0 < *size;
     }
     good
 }
@@ -48,12 +54,10 @@ fn open(live: &[u16], n: usize, member: &mut [u16])
     requires { (n ≤ length live.now) × ((n ≤ length member.old) × Holds n (λ x. 65535) member.old) }
     ensures { (x : ℕ) → x < n → ltb (get_or member.new x 0) 1 ≡ ltb 0 (get_or live.now x 0) }
 {
-    let mut x = 0;
-    while x < n {
-        if live[x] != 0 {
+    for (x, groups) in live[..n].iter().enumerate() {
+        if *groups != 0 {
             member[x] = 0;
         }
-        x += 1;
     }
 }
 
@@ -78,20 +82,7 @@ fn strike_in(
         (rev_in graph.now game.positions) (without gone.now set)
         member.new live.new dead.new }
 {
-    let nodes = game.nodes;
-    let groups = game.groups;
-    let positions = game.positions;
-    let rev = places(graph.len());
-    let starts = graph.len() - 2049;
-    strike(
-        &graph[rev..rev + positions],
-        &graph[starts..starts + (nodes + 1)],
-        &graph[..groups],
-        gone,
-        member,
-        live,
-        dead,
-    );
+    Links::of(graph, game).strike(gone, member, live, dead);
 }
 
 // The set begins: all nodes but those of a list are struck out.
@@ -154,7 +145,7 @@ fn shrink(
     left
 }
 
-// A goal's turn ends: where the figures say so the nodes that have no wait for it are struck out, and those that then
+// A goal's turn ends: where it was reached anew the nodes that have no wait for it are struck out, and those that then
 // cannot go on.
 fn narrow(
     graph: &[u16],
@@ -169,7 +160,7 @@ fn narrow(
     requires { Ending graph.now game.nodes game.groups game.positions game.goals game.kept
         waits.now list.old member.old live.old dead.old gone.old }
     ensures number { result ≡ length (take result list.new) }
-    ensures still { take result list.new ≡ pick game.eager
+    ensures still { take result list.new ≡ pick game.anew
         (drained_in graph.now game.nodes game.groups game.positions
         (filter (waits_all waits.now game.nodes game.goals) (take game.kept list.old)))
         (take game.kept list.old) }
@@ -177,33 +168,10 @@ fn narrow(
         (starts_in graph.now game.nodes) (rev_in graph.now game.positions)
         (take result list.new) member.new live.new dead.new }
 {
-    if game.eager {
+    if game.anew {
         return shrink_all(graph, game, waits, list, member, live, dead, gone);
     }
     game.kept
-}
-
-// The figures of a game with so many nodes in its set, for some of its goals.
-fn figured(game: Figures, first: usize, goals: usize, kept: usize, eager: bool) -> Figures
-    ensures { result ≡ record {
-      nodes = game.nodes;
-      groups = game.groups;
-      positions = game.positions;
-      first = first;
-      goals = goals;
-      kept = kept;
-      eager = eager;
-    } }
-{
-    Figures {
-        nodes: game.nodes,
-        groups: game.groups,
-        positions: game.positions,
-        first: first,
-        goals: goals,
-        kept: kept,
-        eager: eager,
-    }
 }
 
 // The reach to each goal that the figures name, from the same set. A goal with as many targets as when it was last
@@ -236,8 +204,7 @@ fn seek(
     let last = scratch.len() - 8;
     let mut bits = [0u16; 1024];
     offers(&graph[labels..labels + nodes], member, &mut bits);
-    let mut goal = game.first;
-    while goal < game.goals {
+    for goal in game.first..game.goals {
         let tail = aim(&bits, set, goal, queue);
         if scratch[last + goal] as usize != tail {
             scratch[last + goal] = tail as u16;
@@ -253,10 +220,10 @@ fn seek(
                 tail,
             );
         }
-        goal += 1;
     }
 }
 
+// Kept: rounds and turns begin alike. A struct for their arrays, filled twice, costs 9,200 instructions more a play.
 // The set begins, and the rounds are played until one strikes nothing out; leaves the waits of the nodes that are left,
 // and returns their number.
 fn rounds(
@@ -281,7 +248,11 @@ fn rounds(
     copy(start, &mut list);
     let mut kept = start.len();
     loop {
-        let all = figured(game, 0, game.goals, kept, false);
+        let all = Figures {
+            first: 0,
+            kept,
+            ..game
+        };
         seek(
             graph,
             all,
@@ -323,10 +294,7 @@ fn still_after(still: usize, kept: usize, left: usize) -> usize
     requires { still < 8 }
     ensures { result ≡ pick (ltb left kept) 0 (still + 1) }
 {
-    if left < kept {
-        return 0;
-    }
-    still + 1
+    if left < kept { 0 } else { still + 1 }
 }
 
 // The goal whose turn it is after another's.
@@ -334,10 +302,7 @@ fn goal_after(goal: usize, goals: usize) -> usize
     requires { goal < 8 }
     ensures { result ≡ pick (ltb (goal + 1) goals) (goal + 1) 0 }
 {
-    if goal + 1 < goals {
-        return goal + 1;
-    }
-    0
+    if goal + 1 < goals { goal + 1 } else { 0 }
 }
 
 // The set begins, and one goal after the other has its turn until as many turns as there are goals have struck nothing
@@ -371,7 +336,12 @@ fn turns(
         let was = noted(scratch, goal);
         seek(
             graph,
-            figured(game, goal, goal + 1, kept, true),
+            Figures {
+                first: goal,
+                goals: goal + 1,
+                kept,
+                ..game
+            },
             sizes,
             &list[..kept],
             &member,
@@ -380,9 +350,15 @@ fn turns(
             &mut queue,
         );
         let from = goal * nodes;
+        let anew = noted(scratch, goal) != was;
         let left = narrow(
             graph,
-            figured(game, 0, 1, kept, noted(scratch, goal) != was),
+            Figures {
+                goals: 1,
+                kept,
+                anew,
+                ..game
+            },
             &waits[from..from + nodes],
             &mut list,
             &mut member,
@@ -397,10 +373,11 @@ fn turns(
     kept
 }
 
-// Plays a game in the way that the figures say.
+// Plays a game in the given order.
 fn play(
     graph: &[u16],
     game: Figures,
+    order: Order,
     sizes: &[u16],
     start: &[u16],
     dead: &mut [u16],
@@ -412,10 +389,10 @@ fn play(
     ensures { Played graph.now game.nodes game.groups game.positions game.goals
         start.now waits.old result waits.new }
 {
-    if game.eager {
-        return turns(graph, game, sizes, start, dead, scratch, waits);
+    match order {
+        Order::Rounds => rounds(graph, game, sizes, start, dead, scratch, waits),
+        Order::Turns => turns(graph, game, sizes, start, dead, scratch, waits),
     }
-    rounds(graph, game, sizes, start, dead, scratch, waits)
 }
 
 // The figures of a game fit, and there is room for the waits.
@@ -454,12 +431,13 @@ fn sound(graph: &[u16], shape: Shape, start: &[u16]) -> bool
 fn within(
     graph: &[u16],
     game: Figures,
+    order: Order,
     start: &[u16],
     sizes: &mut [u16],
     dead: &mut [u16],
     scratch: &mut [u16],
     waits: &mut [u16],
-) -> usize
+) -> Option<usize>
     requires tested { Tested graph.now game.nodes game.groups game.positions game.goals start.now
         (length waits.old) }
     requires sizes { Fresh game.groups 0 sizes.old }
@@ -473,46 +451,32 @@ fn within(
     let rev = places(graph.len());
     tally(&graph[rev..rev + positions], sizes);
     if !covered(&sizes[..groups]) {
-        return 0;
+        return None;
     }
-    play(graph, game, sizes, start, dead, scratch, waits)
+    Some(play(graph, game, order, sizes, start, dead, scratch, waits))
 }
 
-// The arrays for a game with few groups and positions: those for a large one take longer to fill than to use.
-fn small(graph: &[u16], game: Figures, start: &[u16], waits: &mut [u16]) -> usize
+// The arrays for a game with at most ROOM groups, whose scratch numbers are as many and 8 more.
+fn in_arrays<const ROOM: usize, const SCRATCH: usize>(
+    graph: &[u16],
+    game: Figures,
+    order: Order,
+    start: &[u16],
+    waits: &mut [u16],
+) -> Option<usize>
     requires tested { Tested graph.now game.nodes game.groups game.positions game.goals start.now
         (length waits.old) }
-    requires few { places_in (length graph.now) ≤ 2048 }
+    requires room { (places_in (length graph.now) ≤ ROOM) × ((ROOM ≤ 8192) × (SCRATCH ≡ ROOM + 8)) }
     ensures { Worked graph.now game.nodes game.groups game.positions game.goals
         start.now waits.old result waits.new }
 {
-    let mut sizes = [0u16; 2048];
-    let mut dead = [0u16; 2048];
-    let mut scratch = [65535u16; 2056];
+    let mut sizes = [0u16; ROOM];
+    let mut dead = [0u16; ROOM];
+    let mut scratch = [65535u16; SCRATCH];
     within(
         graph,
         game,
-        start,
-        &mut sizes,
-        &mut dead,
-        &mut scratch,
-        waits,
-    )
-}
-
-// The arrays for any other.
-fn large(graph: &[u16], game: Figures, start: &[u16], waits: &mut [u16]) -> usize
-    requires tested { Tested graph.now game.nodes game.groups game.positions game.goals start.now
-        (length waits.old) }
-    ensures { Worked graph.now game.nodes game.groups game.positions game.goals
-        start.now waits.old result waits.new }
-{
-    let mut sizes = [0u16; 8192];
-    let mut dead = [0u16; 8192];
-    let mut scratch = [65535u16; 8200];
-    within(
-        graph,
-        game,
+        order,
         start,
         &mut sizes,
         &mut dead,
@@ -523,12 +487,13 @@ fn large(graph: &[u16], game: Figures, start: &[u16], waits: &mut [u16]) -> usiz
 
 // Works out a game: which nodes of a list are left when nodes from which some goal cannot be forced are struck out again
 // and again, and in how many steps each goal is forced from them; a mark, 65535, for all other nodes. Returns how many
-// are left. Where the numbers do not fit, or the arrays are not those of a hypergraph, it returns 0 and writes nothing.
-pub fn work_out(graph: &[u16], shape: Shape, start: &[u16], waits: &mut [u16]) -> usize
+// are left. Where the numbers do not fit, or the arrays are not those of a hypergraph, there is none, and nothing is
+// written.
+pub fn work_out(graph: &[u16], shape: Shape, start: &[u16], waits: &mut [u16]) -> Option<usize>
     ensures kept { result ≡ pick (playable graph.now shape.nodes shape.groups shape.positions
         shape.goals start.now (length waits.old))
-        (length (held_in graph.now shape.nodes shape.groups shape.positions shape.goals
-        start.now)) 0 }
+        (Some (length (held_in graph.now shape.nodes shape.groups shape.positions shape.goals
+        start.now))) None }
     ensures waits { waits.new ≡ pick (playable graph.now shape.nodes shape.groups
         shape.positions shape.goals start.now (length waits.old))
         (over (waits_in graph.now shape.nodes shape.groups shape.positions shape.goals
@@ -536,10 +501,10 @@ pub fn work_out(graph: &[u16], shape: Shape, start: &[u16], waits: &mut [u16]) -
         start.now)) waits.old) waits.old }
 {
     if !roomy(shape, graph.len(), waits.len()) {
-        return 0;
+        return None;
     }
     if !sound(graph, shape, start) {
-        return 0;
+        return None;
     }
     let game = Figures {
         nodes: shape.nodes,
@@ -548,10 +513,11 @@ pub fn work_out(graph: &[u16], shape: Shape, start: &[u16], waits: &mut [u16]) -
         first: 0,
         goals: shape.goals,
         kept: start.len(),
-        eager: shape.eager,
+        anew: false,
     };
+    // Larger arrays take longer to fill than a small game takes to play.
     if places(graph.len()) <= 2048 {
-        return small(graph, game, start, waits);
+        return in_arrays::<2048, 2056>(graph, game, shape.order, start, waits);
     }
-    large(graph, game, start, waits)
+    in_arrays::<8192, 8200>(graph, game, shape.order, start, waits)
 }

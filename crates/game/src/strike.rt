@@ -3,69 +3,57 @@ ghost use Rattle.std.specs.Prelude.{◌≡◌, true, ◌&&◌, not, List, [], �
 ghost use Rattle.statements.specs.Sets.{is_in, numbers, filter};
 ghost use Rattle.sets.proofs.Members.{Sifted};
 ghost use Rattle.game.specs.Walked.{nodes};
-ghost use Rattle.game.specs.Steps.{Index};
 ghost use Rattle.game.specs.Marks.{Marked, without};
 ghost use Rattle.game.specs.Cuts.{others, waits_all};
 
-// Strikes one node out: it is not marked any more, each group with an end at it dies, and a node whose last group that
-// is is not marked any more either.
-fn strike_one(
-    rev: &[u16],
-    starts: &[u16],
-    gs: &[u16],
-    member: &mut [u16],
-    live: &mut [u16],
-    dead: &mut [u16],
-    node: u16,
-)
-    requires index { Index rev.now starts.now gs.now × (node < nodes starts.now) }
-    requires marked { (set : List ℕ) × Marked gs.now starts.now rev.now set member.old live.old dead.old }
-    ensures { (set : List ℕ) → Marked gs.now starts.now rev.now set
-        member.old live.old dead.old
-        → Marked gs.now starts.now rev.now (without (node ∷ []) set)
-        member.new live.new dead.new }
-{
-    let x = node as usize;
-    member[x] = 65535;
-    let hi = starts[x + 1] as usize;
-    let mut j = starts[x] as usize;
-    while j < hi {
-        let g = rev[j] as usize;
-        if dead[g] == 0 {
-            dead[g] = 1;
-            let f = gs[g] as usize;
-            let left = live[f] - 1;
-            live[f] = left;
-            if left == 0 {
-                member[f] = 65535;
+use crate::links::Links;
+
+impl Links<'_> {
+    // Strikes one node out: it is not marked any more, each group with an end at it dies, and a node whose last group
+    // that is is not marked any more either.
+    fn strike_one(&self, member: &mut [u16], live: &mut [u16], dead: &mut [u16], node: u16)
+        requires inside { node < nodes self.now.starts.now }
+        requires marked { (set : List ℕ) × Marked self.now.gs.now self.now.starts.now self.now.rev.now set
+            member.old live.old dead.old }
+        ensures { (set : List ℕ) → Marked self.now.gs.now self.now.starts.now self.now.rev.now set
+            member.old live.old dead.old
+            → Marked self.now.gs.now self.now.starts.now self.now.rev.now (without (node ∷ []) set)
+            member.new live.new dead.new }
+    {
+        member[node as usize] = 65535;
+        for group in self.at(node) {
+            let g = *group as usize;
+            if dead[g] == 0 {
+                dead[g] = 1;
+                let f = self.gs[g] as usize;
+                let left = live[f] - 1;
+                live[f] = left;
+                if left == 0 {
+                    member[f] = 65535;
+                }
             }
         }
-        j += 1;
     }
-}
 
-// Strikes out the nodes of a list.
-pub(crate) fn strike(
-    rev: &[u16],
-    starts: &[u16],
-    gs: &[u16],
-    gone: &[u16],
-    member: &mut [u16],
-    live: &mut [u16],
-    dead: &mut [u16],
-)
-    requires index { Index rev.now starts.now gs.now }
-    requires inside { (x : ℕ) → is_in x gone.now ≡ true → x < nodes starts.now }
-    requires marked { (set : List ℕ) × Marked gs.now starts.now rev.now set member.old live.old dead.old }
-    ensures { (set : List ℕ) → Marked gs.now starts.now rev.now set
-        member.old live.old dead.old
-        → Marked gs.now starts.now rev.now (without gone.now set)
-        member.new live.new dead.new }
-{
-    let mut k = 0;
-    while k < gone.len() {
-        strike_one(rev, starts, gs, member, live, dead, gone[k]);
-        k += 1;
+    // Strikes out the nodes of a list.
+    pub(crate) fn strike(
+        &self,
+        gone: &[u16],
+        member: &mut [u16],
+        live: &mut [u16],
+        dead: &mut [u16],
+    )
+        requires inside { (x : ℕ) → is_in x gone.now ≡ true → x < nodes self.now.starts.now }
+        requires marked { (set : List ℕ) × Marked self.now.gs.now self.now.starts.now self.now.rev.now set
+            member.old live.old dead.old }
+        ensures { (set : List ℕ) → Marked self.now.gs.now self.now.starts.now self.now.rev.now set
+            member.old live.old dead.old
+            → Marked self.now.gs.now self.now.starts.now self.now.rev.now (without gone.now set)
+            member.new live.new dead.new }
+    {
+        for node in gone {
+            self.strike_one(member, live, dead, *node);
+        }
     }
 }
 
@@ -73,10 +61,8 @@ pub(crate) fn strike(
 fn is_at(list: &[u16], place: usize, number: usize) -> bool
     ensures { result ≡ (ltb place (length list.now) && eqb (get_or list.now place 0) number) }
 {
-    if place < list.len() {
-        return list[place] as usize == number;
-    }
-    false
+    list.get(place)
+        .is_some_and(|found| usize::from(*found) == number)
 }
 
 // Lists the nodes below n that a rising list leaves out; returns how many they are.
@@ -85,17 +71,15 @@ pub(crate) fn rest(list: &[u16], n: usize, out: &mut [u16]) -> usize
     ensures { (take result out.new ≡ others n list.now)
         × (result ≡ length (others n list.now)) }
 {
-    let mut x = 0;
     let mut k = 0;
     let mut count = 0;
-    while x < n {
+    for x in 0..n {
         if is_at(list, k, x) {
             k += 1;
         } else {
             out[count] = x as u16;
             count += 1;
         }
-        x += 1;
     }
     count
 }
@@ -105,13 +89,11 @@ fn waits_all(waits: &[u16], n: usize, goals: usize, node: u16) -> bool
     requires { (node < n) × ((n ≤ 1024) × ((goals ≤ 8) × (goals * n ≤ length waits.now))) }
     ensures { result ≡ waits_all waits.now n goals node }
 {
-    let x = node as usize;
-    let mut i = 0;
-    while i < goals {
+    let x = usize::from(node);
+    for i in 0..goals {
         if waits[i * n + x] == 65535 {
             return false;
         }
-        i += 1;
     }
     true
 }
@@ -136,8 +118,7 @@ pub(crate) fn cut(
         ≡ filter (λ x. not (waits_all waits.now n goals x)) (take count list.old) }
 {
     let mut kept = count;
-    let mut k = 0;
-    while k < count {
+    for k in 0..count {
         let node = list[k];
         if waits_all(waits, n, goals, node) {
             list[k - (count - kept)] = node;
@@ -145,7 +126,6 @@ pub(crate) fn cut(
             gone[count - kept] = node;
             kept -= 1;
         }
-        k += 1;
     }
     kept
 }

@@ -6,12 +6,13 @@ ghost use Rattle.game.specs.Marks.{Marked, without};
 ghost use Rattle.game.specs.Packed.{groups_in, rev_in, starts_in};
 ghost use Rattle.game.specs.Cuts.{waits_all};
 ghost use Rattle.game.specs.Playing.{Ready};
-ghost use Rattle.game.specs.Draining.{drained_in, Emptied, Once, Unmarked, Draining, Taken, Grown, Fails, remains};
+ghost use Rattle.game.specs.Draining.{drained_in, Emptied, Unmarked, Draining, Taken, Grown, Fails, remains};
 ghost use Rattle.game.specs.Draining.{Ending};
 
 use crate::reach::Figures;
 use crate::strike::cut;
 use crate::{Line, places};
+use arrays::sift;
 use format::word::bit_at;
 
 // Puts a node on the worklist: it is not marked any more.
@@ -31,149 +32,141 @@ fn push(member: &mut [u16], list: &mut [u16], tail: usize, node: u16) -> usize
 fn load(gone: &[u16], member: &mut [u16], list: &mut [u16]) -> usize
     requires room { (length gone.now ≤ length list.old)
         × ((x : ℕ) → is_in x gone.now ≡ true → x < length member.old) }
-    requires once { Once gone.now (length gone.now) }
     ensures number { result ≡ length gone.now }
     ensures list { take result list.new ≡ gone.now }
     ensures member { Unmarked gone.now member.old member.new }
 {
-    let mut tail = 0;
-    while tail < gone.len() {
-        tail = push(member, list, tail, gone[tail]);
+    for node in gone {
+        member[*node as usize] = 65535;
     }
-    tail
+    list[..gone.len()].copy_from_slice(gone);
+    gone.len()
 }
 
-// A group dies, if it is not dead. Where it was the last of a node of the set, the node goes on the worklist, or, if a
-// run is over there, only loses its mark.
-fn kill(
-    graph: &[u16],
-    game: Figures,
-    member: &mut [u16],
-    live: &mut [u16],
-    dead: &mut [u16],
-    list: &mut [u16],
-    tail: usize,
-    group: u16,
-) -> usize
-    requires ready { Ready graph.now game.nodes game.groups game.positions game.goals }
-    requires state { (ok : ℕ → Bool) × (after : ℕ → Bool) × (set : List ℕ) × (first : List ℕ)
-        × Draining graph.now game.nodes game.groups game.positions ok set first member.old live.old
-        dead.old list.old tail
-        × Fails (starts_in graph.now game.nodes) (rev_in graph.now game.positions) ok after
-        (without (take tail list.old) set) group }
-    ensures state { (ok after : ℕ → Bool) (set first : List ℕ)
-        → Draining graph.now game.nodes game.groups game.positions ok set first
-        member.old live.old dead.old list.old tail
-        → Fails (starts_in graph.now game.nodes) (rev_in graph.now game.positions) ok after
-        (without (take tail list.old) set) group
-        → Draining graph.now game.nodes game.groups game.positions after set first
-        member.new live.new dead.new list.new result }
-    ensures list { Grown list.old list.new tail result }
-{
-    let g = group as usize;
-    if 0 < dead[g] {
-        return tail;
-    }
-    dead[g] = 1;
-    let node = graph[g];
-    let f = node as usize;
-    let left = live[f] - 1;
-    live[f] = left;
-    if (0 < left) | (0 < member[f]) {
-        return tail;
-    }
-    let labels = graph.len() - 1024;
-    if bit_at(graph[labels + f] as u32, 15) {
-        member[f] = 65535;
-        return tail;
-    }
-    push(member, list, tail, node)
+// A packed game that can be worked out.
+#[derive(Clone, Copy)]
+struct Game<'a> {
+    graph: &'a [u16],
+    figures: Figures,
+    ghost ready: { Ready graph.now figures.nodes figures.groups figures.positions figures.goals },
 }
 
-// Takes the node at the worklist's head off it: each group with an end at it dies.
-fn take_off(
-    graph: &[u16],
-    game: Figures,
-    member: &mut [u16],
-    live: &mut [u16],
-    dead: &mut [u16],
-    list: &mut [u16],
-    line: Line,
-) -> usize
-    requires ready { Ready graph.now game.nodes game.groups game.positions game.goals }
-    requires some { line.head < line.tail }
-    requires state { (set : List ℕ) × (first : List ℕ)
-        × Taken graph.now game.nodes game.groups game.positions set first member.old live.old
-        dead.old list.old line.head line.tail }
-    ensures state { (set first : List ℕ)
-        → Taken graph.now game.nodes game.groups game.positions set first member.old
-        live.old dead.old list.old line.head line.tail
-        → Taken graph.now game.nodes game.groups game.positions set first member.new
-        live.new dead.new list.new (line.head + 1) result }
-{
-    let head = line.head;
-    let x = list[head] as usize;
-    let rev = places(graph.len());
-    let starts = graph.len() - 2049;
-    let hi = graph[starts + (x + 1)] as usize;
-    let mut j = graph[starts + x] as usize;
-    let mut tail = line.tail;
-    while j < hi {
-        let group = graph[rev + j];
-        tail = kill(graph, game, member, live, dead, list, tail, group);
-        j += 1;
+impl Game<'_> {
+    // A group dies, if it is not dead. Where it was the last of a node of the set, the node goes on the worklist, or, if a
+    // run is over there, only loses its mark.
+    fn kill(
+        &self,
+        member: &mut [u16],
+        live: &mut [u16],
+        dead: &mut [u16],
+        list: &mut [u16],
+        tail: usize,
+        group: u16,
+    ) -> usize
+        requires state { (ok : ℕ → Bool) × (after : ℕ → Bool) × (set : List ℕ) × (first : List ℕ)
+            × Draining self.now.graph.now self.now.figures.nodes self.now.figures.groups self.now.figures.positions ok set first member.old live.old
+            dead.old list.old tail
+            × Fails (starts_in self.now.graph.now self.now.figures.nodes) (rev_in self.now.graph.now self.now.figures.positions) ok after
+            (without (take tail list.old) set) group }
+        ensures state { (ok after : ℕ → Bool) (set first : List ℕ)
+            → Draining self.now.graph.now self.now.figures.nodes self.now.figures.groups self.now.figures.positions ok set first
+            member.old live.old dead.old list.old tail
+            → Fails (starts_in self.now.graph.now self.now.figures.nodes) (rev_in self.now.graph.now self.now.figures.positions) ok after
+            (without (take tail list.old) set) group
+            → Draining self.now.graph.now self.now.figures.nodes self.now.figures.groups self.now.figures.positions after set first
+            member.new live.new dead.new list.new result }
+        ensures list { Grown list.old list.new tail result }
+    {
+        let graph = self.graph;
+        let g = group as usize;
+        if 0 < dead[g] {
+            return tail;
+        }
+        dead[g] = 1;
+        let node = graph[g];
+        let f = node as usize;
+        let left = live[f] - 1;
+        live[f] = left;
+        if (0 < left) | (0 < member[f]) {
+            return tail;
+        }
+        let labels = graph.len() - 1024;
+        if bit_at(graph[labels + f] as u32, 15) {
+            member[f] = 65535;
+            return tail;
+        }
+        push(member, list, tail, node)
     }
-    tail
-}
 
-// Runs the worklist until it is empty; returns how many nodes went on it.
-fn drain(
-    graph: &[u16],
-    game: Figures,
-    member: &mut [u16],
-    live: &mut [u16],
-    dead: &mut [u16],
-    list: &mut [u16],
-    first: usize,
-) -> usize
-    requires ready { Ready graph.now game.nodes game.groups game.positions game.goals }
-    requires state { (set : List ℕ)
-        × Taken graph.now game.nodes game.groups game.positions set (take first list.old) member.old
-        live.old dead.old list.old 0 first }
-    ensures emptied { (set : List ℕ)
-        → Taken graph.now game.nodes game.groups game.positions set
-        (take first list.old) member.old live.old dead.old
-        list.old 0 first
-        → Emptied set (drained_in graph.now game.nodes game.groups game.positions
-        (without (take first list.old) set)) list.new result }
-    ensures marked { (set : List ℕ)
-        → Taken graph.now game.nodes game.groups game.positions set
-        (take first list.old) member.old live.old dead.old
-        list.old 0 first
-        → Marked (groups_in graph.now game.groups) (starts_in graph.now game.nodes)
-        (rev_in graph.now game.positions)
-        (drained_in graph.now game.nodes game.groups game.positions
-        (without (take first list.old) set))
-        member.new live.new dead.new }
-{
-    let mut head = 0;
-    let mut tail = first;
-    while head < tail {
-        tail = take_off(
-            graph,
-            game,
-            member,
-            live,
-            dead,
-            list,
-            Line {
-                head: head,
-                tail: tail,
-            },
-        );
-        head += 1;
+    // Takes the node at the worklist's head off it: each group with an end at it dies.
+    fn take_off(
+        &self,
+        member: &mut [u16],
+        live: &mut [u16],
+        dead: &mut [u16],
+        list: &mut [u16],
+        line: Line,
+    ) -> usize
+        requires some { line.head < line.tail }
+        requires state { (set : List ℕ) × (first : List ℕ)
+            × Taken self.now.graph.now self.now.figures.nodes self.now.figures.groups self.now.figures.positions set first member.old live.old
+            dead.old list.old line.head line.tail }
+        ensures state { (set first : List ℕ)
+            → Taken self.now.graph.now self.now.figures.nodes self.now.figures.groups self.now.figures.positions set first member.old
+            live.old dead.old list.old line.head line.tail
+            → Taken self.now.graph.now self.now.figures.nodes self.now.figures.groups self.now.figures.positions set first member.new
+            live.new dead.new list.new (line.head + 1) result }
+    {
+        let graph = self.graph;
+        let head = line.head;
+        let x = list[head] as usize;
+        let rev = places(graph.len());
+        let starts = graph.len() - 2049;
+        let lo = graph[starts + x] as usize;
+        let hi = graph[starts + (x + 1)] as usize;
+        let mut tail = line.tail;
+        for group in &graph[rev + lo..rev + hi] {
+            tail = self.kill(member, live, dead, list, tail, *group);
+        }
+        tail
     }
-    tail
+
+    // Runs the worklist until it is empty; returns how many nodes went on it.
+    fn drain(
+        &self,
+        member: &mut [u16],
+        live: &mut [u16],
+        dead: &mut [u16],
+        list: &mut [u16],
+        first: usize,
+    ) -> usize
+        requires state { (set : List ℕ)
+            × Taken self.now.graph.now self.now.figures.nodes self.now.figures.groups self.now.figures.positions set (take first list.old) member.old
+            live.old dead.old list.old 0 first }
+        ensures emptied { (set : List ℕ)
+            → Taken self.now.graph.now self.now.figures.nodes self.now.figures.groups self.now.figures.positions set
+            (take first list.old) member.old live.old dead.old
+            list.old 0 first
+            → Emptied set (drained_in self.now.graph.now self.now.figures.nodes self.now.figures.groups self.now.figures.positions
+            (without (take first list.old) set)) list.new result }
+        ensures marked { (set : List ℕ)
+            → Taken self.now.graph.now self.now.figures.nodes self.now.figures.groups self.now.figures.positions set
+            (take first list.old) member.old live.old dead.old
+            list.old 0 first
+            → Marked (groups_in self.now.graph.now self.now.figures.groups) (starts_in self.now.graph.now self.now.figures.nodes)
+            (rev_in self.now.graph.now self.now.figures.positions)
+            (drained_in self.now.graph.now self.now.figures.nodes self.now.figures.groups self.now.figures.positions
+            (without (take first list.old) set))
+            member.new live.new dead.new }
+    {
+        let mut head = 0;
+        let mut tail = first;
+        while head < tail {
+            tail = self.take_off(member, live, dead, list, Line { head, tail });
+            head += 1;
+        }
+        tail
+    }
 }
 
 // Cuts a list down to the nodes that are marked or at which a run is over: takes the nodes held, at the front of a
@@ -187,19 +180,9 @@ fn keep(labels: &[u16], member: &[u16], list: &mut [u16], count: usize) -> usize
     ensures still { take result list.new ≡ filter (remains labels.now member.now)
         (take count list.old) }
 {
-    let mut kept = count;
-    let mut k = 0;
-    while k < count {
-        let node = list[k];
-        let x = node as usize;
-        if (member[x] < 1) | bit_at(labels[x] as u32, 15) {
-            list[k - (count - kept)] = node;
-        } else {
-            kept -= 1;
-        }
-        k += 1;
-    }
-    kept
+    sift(list, count, |node| {
+        (member[node as usize] < 1) | bit_at(u32::from(labels[node as usize]), 15)
+    })
 }
 
 // Strikes out the nodes that have no wait for some goal, and those that then cannot go on. Takes the nodes of the set,
@@ -235,7 +218,11 @@ pub(crate) fn shrink_all(
     }
     let mut line = [0u16; 1024];
     let first = load(&gone[..kept - left], member, &mut line);
-    drain(graph, game, member, live, dead, &mut line, first);
+    let ready = Game {
+        graph,
+        figures: game,
+    };
+    ready.drain(member, live, dead, &mut line, first);
     let labels = graph.len() - 1024;
     keep(&graph[labels..labels + nodes], member, list, left)
 }

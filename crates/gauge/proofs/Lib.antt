@@ -10,5 +10,4 @@ pub mod Nearest
 pub mod Units
 pub mod Rounded
 pub mod Loops
-pub mod Tables
 pub mod Examples

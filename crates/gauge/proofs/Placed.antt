@@ -16,7 +16,7 @@ use Rattle.statements.specs.Plants.{first_of, when}
 use Rattle.sets.proofs.Tests.{and_iff, and_left, and_right, and_true}
 use Rattle.sets.proofs.First.{first_holds, first_least}
 use Rattle.gauge.specs.declared.Band.{Band}
-use Rattle.gauge.specs.declared.Place.{Place}
+use Rattle.gauge.specs.Bands.{Place}
 use Rattle.gauge.specs.Numbers.{Number, value_of}
 use Rattle.gauge.specs.Bands.{band_of, table_ok, deviation_of, reading_ok, gauge_fault, holds, band_at, PlaceSays}
 use Rattle.gauge.specs.Placed.{In, Table, Readable, Means, Placed}

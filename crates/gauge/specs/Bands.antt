@@ -1,5 +1,6 @@
 -- Request (xi): a table of bands, answers 11 and 12, and the state of the band that holds a deviation.
 use Rattle.std.specs.Prelude.{◌≡◌, Bool, true, false, ◌&&◌, ◌||◌, not, List, ℕ, zero, suc, ◌+◌, ◌-◌, ◌*◌, eqb, ltb, leb, length, get_or, Float}
+use Rattle.std.specs.Prelude.{Option, Some, None, Result, Ok, Err}
 use Rattle.std.specs.Float.{nan, binary64}
 use Rattle.std.specs.Float.Ieee.{sub, le, lt}
 use Rattle.statements.specs.Sets.{pick, every, first}
@@ -8,7 +9,8 @@ use Rattle.gauge.specs.Numbers.{is_finite}
 use Rattle.gauge.specs.declared.End.{End}
 use Rattle.gauge.specs.declared.End.TheVariants.{Open, At}
 use Rattle.gauge.specs.declared.Band.{Band}
-use Rattle.gauge.specs.declared.Place.{Place}
+use Rattle.refusal.specs.declared.Refusal.{Refusal}
+use Rattle.refusal.specs.Numbers.{number_of}
 
 -- an end by its kind: 0 open, whatever number stands beside it, and 1 at that number
 abbrev pub end_of : ℕ → Float → End
@@ -100,6 +102,17 @@ abbrev pub is_found : List ℕ → List Float → List ℕ → ℕ → Float →
 is_found kinds ends states s reading aim =
     eqb (gauge_fault kinds ends states s reading aim) 0 &&
     ltb (band_at kinds ends states (deviation_of reading aim)) (length states)
+
+-- what the call answers, with every field: a refusal's number or 0, whether a band holds the deviation, and its state
+pub record Place : Type 0 where
+  pub number : ℕ
+  pub found : Bool
+  pub state : ℕ
+
+abbrev pub place_of : Result (Option ℕ) Refusal → Place
+place_of (Ok (Some state)) = record { number = 0; found = true; state = state }
+place_of (Ok None) = record { number = 0; found = false; state = 0 }
+place_of (Err why) = record { number = number_of why; found = false; state = 0 }
 
 -- what the call answers: a refusal's number or 0, whether a band holds the deviation, and its state; 0 for no state
 pub record PlaceSays (kinds : List ℕ) (ends : List Float) (states : List ℕ) (s : ℕ) (reading aim : Float)

@@ -8,7 +8,7 @@ use Rattle.gauge.specs.Bands.{band_of, deviation_of, PlaceSays}
 use Rattle.gauge.specs.declared.End.{End}
 use Rattle.gauge.specs.declared.End.TheVariants.{Open, At}
 use Rattle.gauge.specs.declared.Band.{Band}
-use Rattle.gauge.specs.declared.Place.{Place}
+use Rattle.gauge.specs.Bands.{Place}
 
 -- an end is open without limit or a finite number
 abbrev pub IsEnd : End → Type 0

@@ -1,27 +1,32 @@
 -- The packed arrays as a whole: when there is room for them, and that they hold the graph once the layout is loaded and
 -- the links are packed. Assumes nothing.
+use Rattle.std.proofs.Common.{Some, None}
 use mathlib.Core.Path.{◌≡◌, refl, sym, ap, ◌∙◌}
 use mathlib.Core.Bool.{Bool, true, false, ◌&&◌}
 use mathlib.Core.List.{List, ◌++◌}
-use Prim.Native.Nat.{ℕ, ◌+◌, ◌-◌, ◌*◌, ◌≤◌, ◌<◌}
+use Prim.Native.Nat.{ℕ, ◌+◌, ◌-◌, ◌*◌, ◌/◌, ◌≤◌, ◌<◌}
 use native.Mathlib.Omega.{arith}
 use borrow.Author.Tests.{le-leb, lt-leb, eqb-true}
 use lib.Dec.{leb, eqb}
 use lib.ListN.{length, take, drop, length-drop}
-use lib.Seq.{length-take-le, take-append-le, take-take}
+use lib.Seq.{length-take-le, take-take}
 use Rattle.statements.specs.Plants.{word, Plant, plant_of, plant_fault}
 use Rattle.sets.proofs.Tests.{and_left, and_none, and_iff, leb_iff}
 use Rattle.decoding.proofs.Faults.{states_few}
 use Rattle.format.proofs.Header.{plant_states}
 use Rattle.decoding.proofs.Order.{arrows_length}
 use Rattle.layout.specs.Layout.{group_states, group_ends, group_sizes, group_owners, table_room, roomy, Front, Layout}
+use Rattle.layout.specs.declared.Loaded.{Loaded}
+use Rattle.layout.specs.Loading.{loaded_of}
 use Rattle.layout.proofs.Closing.{ends_length, numbered_length}
+use Rattle.layout.proofs.Options.{some_yes, some_is, none_no}
+use Rattle.statements.specs.Sets.{pick}
 use Rattle.game.specs.Packed.{part, places_in}
 use Rattle.graph.specs.Packed.{lent, accepts, roomy_pack, Packed}
-use Rattle.graph.specs.Steps.{Linkable, Linked}
+use Rattle.graph.specs.Steps.{Owned, Linkable, Linked}
 use Rattle.graph.proofs.Groups.{ends_few}
 use Rattle.graph.proofs.Links.{arrows_few, links_ends}
-use Rattle.graph.proofs.Packing.{front_fits, front_alike}
+use Rattle.graph.proofs.Packing.{front_fits, front_append, front_alike}
 
 module _ (p : Plant) (table graph : List ℕ) where
   -- with room for the starts and the labels, there is room where there is for the layout
@@ -40,15 +45,6 @@ module _ (p : Plant) (table graph : List ℕ) where
       and_none (leb 1026 (length table)) (table_fits && (leb 2049 (length graph) && fits))
       (and_none table_fits (leb 2049 (length graph) && fits) (rw (lt-leb 2049 (length graph) short)))
 
-  -- the parts have places for so many ends
-  pub parts_fit : roomy_pack p table graph ≡ true → (n : ℕ) → n ≤ length p.arrows
-      → (1026 + 4 * table_room (length table) ≤ length table) × (n ≤ table_room (length table))
-      × (n ≤ places_in (length graph))
-  unfolding roomy_pack table_room
-  parts_fit h n few =
-      let k = simp (and_iff, leb_iff) at h in
-      omega arith
-
 -- what is accepted and fits, by what the layout tells and what the links do
 pub both_fit : (indexed : Bool) (index s : List ℕ) (room fits good : Bool) → fits ≡ (eqb (plant_fault s) 0 && room)
     → lent indexed (plant_of s) index ≡ good → (fits && good) ≡ (accepts indexed index s && room)
@@ -63,11 +59,7 @@ both_fit indexed index s room fits good e l =
     turned true false true = refl
     turned true false false = refl
 
--- an accepted plant has no fault
-pub accepted : (s : List ℕ) (b : Bool) → (eqb (plant_fault s) 0 && b) ≡ true → plant_fault s ≡ 0
-accepted s b e = eqb-true (plant_fault s) 0 (and_left (eqb (plant_fault s) 0) b e)
-
--- and few states and ends
+-- an accepted plant has few states and ends
 pub counts_few : (s : List ℕ) (mask a : ℕ) → plant_fault s ≡ 0 → a ≡ length (group_ends (plant_of s) mask)
     → (word 0 s ≤ 1024) × (a ≤ 8192) × (a ≤ length (plant_of s).arrows)
 counts_few s mask a fine count =
@@ -79,9 +71,21 @@ counts_few s mask a fine count =
       ends_few (plant_of s) mask,
     )
 
--- a list that begins the first of two
-front_append : (vs xs rest : List ℕ) → Front vs xs → Front vs (xs ++ rest)
-front_append vs xs rest f = take-append-le (length vs) xs rest (front_fits vs xs f) ∙ f
+-- the ends that groups own are few, and there is room for as many
+pub owned_few : {s ends owners rev : List ℕ} {mask : ℕ} → ends ≡ group_ends (plant_of s) mask → Owned s mask owners rev
+    → (word 0 s ≤ 1024) × (length ends ≤ 8192) × (length ends ≤ length owners) × (length ends ≤ length rev)
+owned_few {s} {mask = mask} e own =
+    omega (
+      arith,
+      states_few s own.fine,
+      plant_states s,
+      ap length e,
+      ends_few (plant_of s) mask,
+      arrows_few s own.fine,
+      arrows_length s,
+      own.owners_long,
+      own.rev_long,
+    )
 
 -- as many owners as ends
 pub owners_length : (p : Plant) (mask : ℕ) → length (group_owners p mask) ≡ length (group_ends p mask)
@@ -93,6 +97,51 @@ pub owners_part_lem : (p : Plant) (mask : ℕ) (ends owners : List ℕ) → ends
     → Front (group_owners p mask) owners → take (length ends) owners ≡ group_owners p mask
 owners_part_lem p mask ends owners e front =
     ap (λ (n : ℕ). take n owners) (ap length e ∙ sym (owners_length p mask)) ∙ front
+
+-- a layout that is loaded in a table and the front of a graph: of the plant and of the room it tells this
+pub record Opened (s : List ℕ) (mask : ℕ) (table graph : List ℕ) (l : Loaded) : Type 0 where
+  pub fine : plant_fault s ≡ 0
+  pub roomy : (eqb (plant_fault s) 0 && roomy_pack (plant_of s) table graph) ≡ true
+  pub counted : l ≡ loaded_of (plant_of s) mask
+  pub arrows_are : l.arrows ≡ length (group_ends (plant_of s) mask)
+  pub table_fits : word 3 s ≤ table_room (length table)
+  pub graph_fits : word 3 s ≤ places_in (length graph)
+
+module _ (s : List ℕ) (mask : ℕ) (table graph : List ℕ) (long : 2049 ≤ length graph) where
+  abbrev p : Plant
+  p = plant_of s
+
+  -- the front of the graph, for the states of the groups
+  abbrev Places : List ℕ
+  Places = take ((length graph - 2049) / 2) graph
+
+  pub places_size : length Places ≡ places_in (length graph)
+  unfolding places_in
+  places_size = length-take-le ((length graph - 2049) / 2) graph (omega arith)
+
+  same : roomy p table Places ≡ roomy_pack p table graph
+  same = room_same p table graph long Places places_size
+
+  pub loads_no : None ≡ pick (eqb (plant_fault s) 0 && roomy p table Places) (Some (loaded_of p mask)) None
+      → (eqb (plant_fault s) 0 && roomy_pack p table graph) ≡ false
+  loads_no e = rw (← same) (none_no _ _ e)
+
+  pub opened : (l : Loaded)
+      → Some l ≡ pick (eqb (plant_fault s) 0 && roomy p table Places) (Some (loaded_of p mask)) None
+      → Opened s mask table graph l
+  unfolding roomy_pack
+  opened l e =
+      let both : (eqb (plant_fault s) 0 && roomy_pack p table graph) ≡ true = rw (← same) (some_yes _ _ l e) in
+      let k = simp (and_iff, leb_iff) at both in
+      let is = some_is _ _ l e in
+      record {
+        fine = eqb-true (plant_fault s) 0 (and_left (eqb (plant_fault s) 0) (roomy_pack p table graph) both);
+        roomy = both;
+        counted = is;
+        arrows_are = ap (λ (m : Loaded). m.arrows) is;
+        table_fits = omega (arith, arrows_length s);
+        graph_fits = omega (arith, arrows_length s);
+      }
 
 -- a part of a list, and how long it is
 part_of : (a n : ℕ) (t : List ℕ) → part a n t ≡ take n (drop a t)

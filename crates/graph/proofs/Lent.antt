@@ -1,7 +1,7 @@
 -- What gathering the groups by an index tells where all arrows are in service: whether the bytes lent are the plant's
 -- index, and if so the groups are sorted by their ends. Assumes nothing.
 use mathlib.Core.Path.{◌≡◌, refl, sym, ap, ◌∙◌}
-use mathlib.Core.Bool.{Bool, true, false, ◌&&◌}
+use mathlib.Core.Bool.{Bool, true}
 use mathlib.Core.List.{List}
 use Prim.Native.Nat.{ℕ, ◌<◌, ◌≤◌}
 use native.Mathlib.Omega.{arith}
@@ -21,19 +21,15 @@ use Rattle.layout.specs.Layout.{group_ends, group_owners, Front}
 use Rattle.layout.proofs.Served.{ends_served}
 use Rattle.sort.specs.Sorted.{sorted_by}
 use Rattle.index.specs.Checked.{opens_well, numbers_in, ascends}
-use Rattle.index.specs.Gathered.{climbed, taken, ready, gathers}
+use Rattle.index.specs.Gathered.{climbed, taken, ready}
 use Rattle.index.proofs.Passing.{end_read}
 use Rattle.index.proofs.Ends.{by_sorted}
-use Rattle.index.proofs.Exact.{ascends_exactly, index_numbers_lem}
-use Rattle.index.proofs.Taken.{climbed_all, gathers_exactly}
+use Rattle.index.proofs.Exact.{same_passes, index_numbers_lem}
+use Rattle.index.proofs.Taken.{and_on, climbed_all}
 use Rattle.graph.proofs.Links.{arrows_few}
 use Rattle.graph.proofs.Building.{owners_length}
 
-and_on : (b : Bool) → (b && true) ≡ b
-and_on true = refl
-and_on false = refl
-
-module _ (s index by rev : List ℕ) (fine : plant_fault s ≡ 0) (bytes : (k : ℕ) → get_or index k 0 < 256)
+module _ (s index by rev : List ℕ) (fine : plant_fault s ≡ 0)
     (by_room : word 3 s ≤ length by) (room : word 3 s ≤ length rev) where
   abbrev p : Plant
   p = plant_of s
@@ -46,15 +42,6 @@ module _ (s index by rev : List ℕ) (fine : plant_fault s ≡ 0) (bytes : (k : 
       let few = arrows_length s in
       rw ((plant_tests s fine).0, le-leb e (length by) (omega (arith, few)), le-leb e (length rev) (omega (arith, few)))
       (and_on (opens_well p.states e index))
-
-  -- so the groups are gathered just where the bytes are the index
-  pub gathers_is : gathers s index by rev ≡ same_bytes index (index_bytes p)
-  gathers_is =
-      let e = length p.arrows in
-      let few = arrows_length s in
-      gathers_exactly s fine index by rev bytes
-      ∙ rw (le-leb e (length by) (omega (arith, few)), le-leb e (length rev) (omega (arith, few)))
-      (and_on (same_bytes index (index_bytes p)))
 
   module _ (mask : ℕ) (all : length (group_ends p mask) ≡ word 3 s) (own : Front (group_owners p mask) by) where
     abbrev sorted : List ℕ
@@ -83,7 +70,8 @@ module _ (s index by rev : List ℕ) (fine : plant_fault s ≡ 0) (bytes : (k : 
         → Front sorted new
     unfolding ascends
     lent_list new same e =
-        let up : ascends p index ≡ true = ascends_exactly s fine index bytes ∙ same in
+        let up : ascends p index ≡ true =
+        same_passes s fine index ((same_iff index (index_bytes p)).0 same) in
         let opens = and_left (opens_well p.states (length p.arrows) index) _ up in
         let climb = and_right (opens_well p.states (length p.arrows) index) _ up in
         let numbers = climbed_all p 0 (numbers_in p index) climb

@@ -1,6 +1,8 @@
 -- The graph of a plant in two packed arrays: the groups with their ends, and the links from each end back to its group.
 -- Assumes nothing.
-use Rattle.std.specs.Prelude.{Bool, ◌&&◌, ◌||◌, not, List, ℕ, ◌+◌, ◌-◌, ◌*◌, eqb, leb, length, drop}
+use Rattle.std.specs.Prelude.{Bool, ◌&&◌, ◌||◌, not, List, [], ℕ, ◌+◌, ◌-◌, ◌*◌, eqb, leb, length, drop, Option, is_some}
+use Rattle.std.specs.Borrow.{Bor}
+use Rattle.std.specs.Option.{option_map_or}
 use Rattle.statements.specs.Plants.{Plant, plant_of, plant_fault}
 use Rattle.statements.specs.Index.{index_bytes, same_bytes}
 use Rattle.sort.specs.Sorted.{sorted_by, starts_of}
@@ -12,9 +14,19 @@ use Rattle.game.specs.Packed.{places_in}
 unfoldable pub lent : Bool → Plant → List ℕ → Bool
 lent indexed p index = not indexed || same_bytes index (index_bytes p)
 
+-- the bytes of an index, where one is lent
+abbrev pub lent_bytes : Option (Bor (List ℕ)) → List ℕ
+lent_bytes index = option_map_or (λ b. b.now) index []
+
+abbrev pub lent_by : Option (Bor (List ℕ)) → Plant → Bool
+lent_by index p = lent (is_some index) p (lent_bytes index)
+
 -- a plant is accepted, and so is the index where one is lent
 unfoldable pub accepts : Bool → List ℕ → List ℕ → Bool
 accepts indexed index s = eqb (plant_fault s) 0 && lent indexed (plant_of s) index
+
+abbrev pub accepts_by : Option (Bor (List ℕ)) → List ℕ → Bool
+accepts_by index s = accepts (is_some index) (lent_bytes index) s
 
 -- there is room for the graph of a plant
 unfoldable pub roomy_pack : Plant → List ℕ → List ℕ → Bool

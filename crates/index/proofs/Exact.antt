@@ -137,7 +137,7 @@ module _ (s : List ℕ) (fine : plant_fault s ≡ 0) (index : List ℕ) where
   index_numbers_lem e = ap (drop 4) (read_back e)
 
   -- it passes
-  same_passes : index ≡ index_bytes p → ascends p index ≡ true
+  pub same_passes : index ≡ index_bytes p → ascends p index ≡ true
   unfolding ascends
   same_passes e =
       let all = e ∙ index_bytes_lem p in

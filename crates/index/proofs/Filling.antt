@@ -4,20 +4,17 @@ use mathlib.Core.Path.{◌≡◌, refl, sym, ap, ap₂, ◌∙◌}
 use mathlib.Core.Logic.{⊎_elim}
 use mathlib.Core.Bool.{Bool, true, false, ◌&&◌}
 use mathlib.Core.List.{List, [], ◌∷◌, ◌++◌, append_assoc}
-use Prim.Native.Nat.{ℕ, ◌+◌, ◌*◌, ◌/◌, ◌%◌, ◌≤◌, ◌<◌}
-use native.Mathlib.Numerals.{add-one}
+use Prim.Native.Nat.{ℕ, ◌+◌, ◌*◌, ◌≤◌, ◌<◌}
 use native.Mathlib.Omega.{arith}
 use lib.Dec.{eqb, leb}
 use borrow.Author.Tests.{eq-eqb, ne_eqb, le-leb, lt-leb}
-use lib.ListN.{length, get_or, take, drop, set, length-set, length-append}
-use lib.Seq.{sets, take-suc, take_all, take_at, length-take-le, get_or-set_same, get_or-set_other}
+use lib.ListN.{length, take, drop, set, length-set, length-append}
+use lib.Seq.{take_at, get_or-set_same, get_or-set_other}
 use Rattle.statements.specs.Sets.{pick, over}
 use Rattle.statements.specs.Plants.{word, plant_of, plant_fault}
-use Rattle.statements.specs.Books.{two, bytes_of}
+use Rattle.statements.specs.Books.{bytes_of}
 use Rattle.statements.specs.Index.{by_end, index_long, index_bytes}
 use Rattle.sets.proofs.Tests.{same_number, and_true, and_none}
-use Rattle.sets.proofs.Over.{over_length, over_more}
-use Rattle.decoding.proofs.Sizes.{bytes_length, bytes_append}
 use Rattle.decoding.proofs.Order.{arrows_length, ends_low, by_long}
 use Rattle.format.specs.Arrows.{arrow_in}
 use Rattle.format.proofs.Header.{plant_states}
@@ -62,50 +59,6 @@ list_next {s} {count} {ends} {numbers} {n} v l more e =
       ends_are = holds_more (λ j. (arrow_in s j).to) ends n v l.ends_are (omega (arith, l.ends_room)) e;
       numbers_are = holds_more (λ j. j) numbers n n l.numbers_are (omega (arith, l.numbers_room)) refl;
     }
-
--- the loop over the numbers: the bytes of k of them are written
-pub record Put (numbers old new : List ℕ) (k : ℕ) : Type 0 where
-  pub within : k ≤ length numbers
-  pub room : 2 * length numbers ≤ length old
-  pub bytes : new ≡ over (bytes_of (take k numbers)) old
-
-pub put_start : (numbers old : List ℕ) → 2 * length numbers ≤ length old → Put numbers old old 0
-unfolding over bytes_of
-put_start numbers old h = record { within = omega arith; room = h; bytes = refl }
-
-module _ {numbers old new : List ℕ} {k : ℕ} (p : Put numbers old new k) where
-  long : length (bytes_of (take k numbers)) ≡ 2 * k
-  long = bytes_length (take k numbers) ∙ ap (λ (n : ℕ). 2 * n) (length-take-le k numbers p.within)
-
-  -- the buffer keeps its length
-  pub put_length : length new ≡ length old
-  put_length =
-      ap length p.bytes
-      ∙ over_length (bytes_of (take k numbers)) old (omega (arith, long, p.within, p.room))
-
-  pub put_next : k < length numbers
-      → (let v = get_or numbers k 0 in Put numbers old (set (set new (2 * k) (v % 256)) (2 * k + 1) (v / 256)) (k + 1))
-  unfolding two bytes_of
-  put_next more =
-      let v = get_or numbers k 0 in
-      let xs = bytes_of (take k numbers) in
-      let stored : set (set new (2 * k) (v % 256)) (2 * k + 1) (v / 256) ≡ sets new (2 * k) (two v) =
-      ap (λ (i : ℕ). set (set new (2 * k) (v % 256)) i (v / 256)) (add-one (2 * k)) in
-      let more_bytes : bytes_of (take (k + 1) numbers) ≡ xs ++ two v =
-      ap (λ (i : ℕ). bytes_of (take i numbers)) (add-one k)
-      ∙ ap bytes_of (take-suc numbers k 0 more) ∙ bytes_append (take k numbers) (v ∷ []) in
-      record {
-        within = omega arith;
-        room = p.room;
-        bytes =
-            stored
-            ∙ ap₂ (λ (l : List ℕ) (i : ℕ). sets l i (two v)) p.bytes (sym long)
-            ∙ over_more xs (two v) old (omega (arith, long, p.room))
-            ∙ ap (λ (ys : List ℕ). over ys old) (sym more_bytes);
-      }
-
-  pub put_end : length numbers ≤ k → new ≡ over (bytes_of numbers) old
-  put_end h = p.bytes ∙ ap (λ (ys : List ℕ). over (bytes_of ys) old) (take_all k numbers h)
 
 -- four numbers stored at the front
 pub four : (l : List ℕ) (a b c d : ℕ) → 4 ≤ length l

@@ -171,16 +171,9 @@ module _ {s index by old new : List ℕ} {count ends k least n next : ℕ}
         l.list ∙ sym (rw (l.good, all) refl),
       )
 
--- the list keeps its length, and at last all are passed
+-- at last all are passed
 module _ {s index by old new : List ℕ} {count ends k least : ℕ}
     (l : Listed s index by old new count ends k least) where
-  pub listed_length : length new ≡ length old
-  listed_length =
-      let few : k ≤ word 3 s = omega (arith, l.passed.within, l.passed.many) in
-      ap length l.list
-      ∙ over_length (taken by (Front s index k)) old
-      (omega (arith, front_long s index by k few, l.passed.within, l.room))
-
   pub gather_end : count ≤ k → (true ≡ gathers s index by old) × (new ≡ After s index by old)
   unfolding gathers climbed words
   gather_end h =

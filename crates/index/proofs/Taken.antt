@@ -3,14 +3,17 @@
 use mathlib.Core.Path.{◌≡◌, refl, ap, ap₂, ◌∙◌}
 use mathlib.Core.Bool.{Bool, true, false, ◌&&◌}
 use mathlib.Core.List.{List, [], ◌∷◌}
-use Prim.Native.Nat.{ℕ, suc, ◌<◌}
+use Prim.Native.Nat.{ℕ, suc, ◌<◌, ◌≤◌}
+use native.Mathlib.Omega.{arith}
+use borrow.Author.Tests.{le-leb}
 use lib.Dec.{ltb, leb}
 use lib.ListN.{length, get_or}
 use Rattle.statements.specs.Sets.{pick}
-use Rattle.statements.specs.Plants.{Plant, plant_of, plant_fault}
+use Rattle.statements.specs.Plants.{word, Plant, plant_of, plant_fault}
 use Rattle.statements.specs.Index.{index_bytes, same_bytes}
 use Rattle.sets.proofs.Tests.{and_left, and_right}
 use Rattle.decoding.proofs.Faults.{plant_tests}
+use Rattle.decoding.proofs.Order.{arrows_length}
 use Rattle.index.specs.Checked.{key_of, climbs, opens_well, numbers_in, ascends}
 use Rattle.index.specs.Gathered.{climbed, ready, gathers}
 use Rattle.index.proofs.Exact.{ascends_exactly}
@@ -45,3 +48,19 @@ gathers_exactly s fine index by out bytes =
     rw (plant_tests s fine).0
     (swapped (opens_well p.states e index) room (climbs p 0 (numbers_in p index))
     ∙ ap (λ (b : Bool). b && room) (ascends_exactly s fine index bytes))
+
+pub and_on : (b : Bool) → (b && true) ≡ b
+and_on true = refl
+and_on false = refl
+
+-- so with room for all arrows the bytes are the plant's index just where all is gathered
+pub gathered : (s index by out : List ℕ) {good : Bool} → ((k : ℕ) → get_or index k 0 < 256)
+    → good ≡ gathers s index by out → plant_fault s ≡ 0 → word 3 s ≤ length by → word 3 s ≤ length out
+    → good ≡ same_bytes index (index_bytes (plant_of s))
+gathered s index by out bytes e fine by_room room =
+    let many = length (plant_of s).arrows in
+    let few = arrows_length s in
+    e
+    ∙ gathers_exactly s fine index by out bytes
+    ∙ rw (le-leb many (length by) (omega (arith, few)), le-leb many (length out) (omega (arith, few)))
+    (and_on (same_bytes index (index_bytes (plant_of s))))

@@ -1,60 +1,52 @@
 // The index of a plant's arrows by where they end: its exact check, what is gathered by it, and writing it.
 #![tactic(auto)]
 
-ghost use Rattle.std.specs.Prelude.{◌≡◌, ◌&&◌, [], ◌∷◌, ◌+◌, ◌*◌, ◌≤◌, eqb, leb, length, take};
+ghost use Rattle.std.specs.Prelude.{◌≡◌, ◌&&◌, [], ◌∷◌, ◌+◌, ◌*◌, ◌<◌, ◌≤◌, eqb, leb, length, take, MatchOption};
 ghost use Rattle.statements.specs.Sets.{pick, over};
 ghost use Rattle.statements.specs.Plants.{word, plant_of, head_ok, plant_fault};
-ghost use Rattle.statements.specs.Books.{bytes_of};
-ghost use Rattle.statements.specs.Index.{by_end, index_long, index_bytes};
+ghost use Rattle.statements.specs.Index.{by_end, index_long, index_bytes, same_bytes};
 ghost use Rattle.format.specs.Arrows.{arrow_in};
 ghost use Rattle.sort.specs.Steps.{Holds};
 ghost use Rattle.index.specs.Checked.{opens_well, numbers_in, ascends};
 ghost use Rattle.index.specs.Gathered.{climbed, taken, ready, gathers};
 ghost use Rattle.index.specs.Steps.{least_next, index_numbers};
 
+use format::arrows::arrow_at;
+use format::check_plant;
 use format::plant::head_ok;
-use format::plant_fault;
-use format::word::{number, pair, word_at};
+use format::word::{number, pair, put_all};
 use sort::sort;
 
-// The state in which arrow n ends; bytes past the end count as 0.
-fn end_at(plant: &[u8], n: u16) -> u16
-    ensures { result ≡ (arrow_in plant.now n).to }
-{
-    let place = 16 + 2 * (number(plant, 0) as usize) + 6 * (n as usize);
-    word_at(plant, place + 4)
-}
-
-// The least key that the number after n may have; 0 if n is no arrow's number or its key is below the least. The place
-// where the first arrow's end stands is worked out before, and the plant has all its arrows.
+// The least key that the number after n may have; none if n is no arrow's number or its key is below the least. The
+// place where the first arrow's end stands is worked out before, and the plant has all its arrows.
 #[tactic(auto, using(crate::proofs::Passing::least_none, crate::proofs::Passing::least_low, crate::proofs::Passing::least_passed, crate::proofs::Passing::end_bytes))]
-fn least_next(plant: &[u8], ends: usize, count: usize, least: u64, n: u16) -> u64
+fn least_next(plant: &[u8], ends: usize, count: usize, least: u64, n: u16) -> Option<u64>
     requires place { ends ≡ 20 + 2 * word 0 plant.now }
     requires long { 16 + 2 * word 0 plant.now + 6 * count ≤ length plant.now }
-    ensures { result ≡ least_next plant.now count least n }
+    ensures { MatchOption result (0 ≡ least_next plant.now count least n)
+        (λ next. (0 < next) × (next ≡ least_next plant.now count least n)) }
 {
     if count <= (n as usize) {
-        return 0;
+        return None;
     }
     let at = ends + 6 * (n as usize);
     let key = 65536 * (pair(plant[at], plant[at + 1]) as u64) + (n as u64);
     if key < least {
-        return 0;
+        return None;
     }
-    key + 1
+    Some(key + 1)
 }
 
 // The length is that of an index of so many arrows, and so are the first four numbers.
 fn opens_well(index: &[u8], states: u16, count: u16) -> bool
     ensures { result ≡ opens_well states count index.now }
 {
-    let long = 8 + 2 * (count as usize);
+    let long = 8 + 2 * usize::from(count);
     let first = number(index, 0);
     let second = number(index, 1);
     let third = number(index, 2);
-    let fourth = number(index, 3) as usize;
-    (index.len() == long)
-        & ((first == states) & ((second == count) & ((third == 8) & (fourth == long))))
+    let fourth = usize::from(number(index, 3));
+    (index.len() == long) & (first == states) & (second == count) & (third == 8) & (fourth == long)
 }
 
 // A plant's header is good, and so is an index's for that plant.
@@ -70,25 +62,26 @@ fn opens(plant: &[u8], index: &[u8]) -> bool
 
 // Some bytes are as long as the index of a plant, open as it does, and have numbers of its arrows, by rising end and
 // then by rising number. Of a plant that is accepted that is exactly its index.
+// Kept: the twin of gather's loop: of a list that a closure writes, a proof would know nothing.
 pub fn is_index(plant: &[u8], index: &[u8]) -> bool
-    ensures { result ≡ (head_ok plant.now
+    ensures value { result ≡ (head_ok plant.now
         && ascends (plant_of plant.now) index.now) }
+    ensures exact { plant_fault plant.now ≡ 0 → result
+        ≡ same_bytes index.now (index_bytes (plant_of plant.now)) }
 {
     if !opens(plant, index) {
         return false;
     }
-    let count = number(plant, 3) as usize;
-    let ends = 20 + 2 * (number(plant, 0) as usize);
-    let mut k = 0;
-    let mut least: u64 = 0;
-    while k < count {
+    let count = usize::from(number(plant, 3));
+    let ends = 20 + 2 * usize::from(number(plant, 0));
+    let mut least = 0;
+    for k in 0..count {
         let at = 8 + 2 * k;
         let n = pair(index[at], index[at + 1]);
-        least = least_next(plant, ends, count, least, n);
-        if least == 0 {
+        let Some(next) = least_next(plant, ends, count, least, n) else {
             return false;
-        }
-        k += 1;
+        };
+        least = next;
     }
     true
 }
@@ -103,24 +96,25 @@ pub fn gather(plant: &[u8], index: &[u8], by: &[u16], out: &mut [u16]) -> bool
         out.old)
         (over (taken by.now (climbed (plant_of plant.now) 0
         (numbers_in (plant_of plant.now) index.now))) out.old) out.old }
+    ensures exact { plant_fault plant.now ≡ 0 → word 3 plant.now ≤ length by.now
+        → word 3 plant.now ≤ length out.old → result
+        ≡ same_bytes index.now (index_bytes (plant_of plant.now)) }
 {
-    let count = number(plant, 3) as usize;
+    let count = usize::from(number(plant, 3));
     let room = (count <= by.len()) & (count <= out.len());
     if !(opens(plant, index) & room) {
         return false;
     }
-    let ends = 20 + 2 * (number(plant, 0) as usize);
-    let mut k = 0;
-    let mut least: u64 = 0;
-    while k < count {
+    let ends = 20 + 2 * usize::from(number(plant, 0));
+    let mut least = 0;
+    for k in 0..count {
         let at = 8 + 2 * k;
         let n = pair(index[at], index[at + 1]);
-        least = least_next(plant, ends, count, least, n);
-        if least == 0 {
+        let Some(next) = least_next(plant, ends, count, least, n) else {
             return false;
-        }
-        out[k] = by[n as usize];
-        k += 1;
+        };
+        out[k] = by[usize::from(n)];
+        least = next;
     }
     true
 }
@@ -131,11 +125,9 @@ fn list_ends(plant: &[u8], count: u16, ends: &mut [u16], numbers: &mut [u16])
     ensures ends { Holds count (λ n. (arrow_in plant.now n).to) ends.new }
     ensures numbers { Holds count (λ n. n) numbers.new }
 {
-    let mut n: u16 = 0;
-    while n < count {
-        ends[n as usize] = end_at(plant, n);
-        numbers[n as usize] = n;
-        n += 1;
+    for n in 0..count {
+        ends[usize::from(n)] = arrow_at(plant, n).to;
+        numbers[usize::from(n)] = n;
     }
 }
 
@@ -145,13 +137,13 @@ fn by_end(plant: &[u8], out: &mut [u16])
     requires room { word 3 plant.now ≤ length out.old }
     ensures { out.new ≡ over (by_end (plant_of plant.now)) out.old }
 {
-    let states = number(plant, 0) as usize;
+    let states = usize::from(number(plant, 0));
     let count = number(plant, 3);
-    let mut ends = [0u16; 8192];
-    let mut numbers = [0u16; 8192];
-    let mut starts = [0u16; 1025];
+    let mut ends = [0; 8192];
+    let mut numbers = [0; 8192];
+    let mut starts = [0; 1025];
     list_ends(plant, count, &mut ends, &mut numbers);
-    let last = count as usize;
+    let last = usize::from(count);
     sort(&ends[..last], &numbers, states, &mut starts, out);
 }
 
@@ -177,20 +169,6 @@ fn fill(plant: &[u8], numbers: &mut [u16])
     by_end(plant, &mut numbers[4..]);
 }
 
-// Writes two-byte numbers over the front of a buffer.
-fn put_all(numbers: &[u16], out: &mut [u8])
-    requires { 2 * length numbers.now ≤ length out.old }
-    ensures { out.new ≡ over (bytes_of numbers.now) out.old }
-{
-    let mut k = 0;
-    while k < numbers.len() {
-        let v = numbers[k];
-        out[2 * k] = (v % 256) as u8;
-        out[2 * k + 1] = (v / 256) as u8;
-        k += 1;
-    }
-}
-
 // Writes the index of a plant over the front of a buffer. Where the plant is refused or the buffer is too short it
 // returns false and writes nothing.
 pub fn write(plant: &[u8], out: &mut [u8]) -> bool
@@ -200,8 +178,7 @@ pub fn write(plant: &[u8], out: &mut [u8]) -> bool
         && leb (index_long (length (plant_of plant.now).arrows)) (length out.old))
         (over (index_bytes (plant_of plant.now)) out.old) out.old }
 {
-    let fault = plant_fault(plant);
-    if fault != 0 {
+    if check_plant(plant).is_err() {
         return false;
     }
     let last = 4 + (number(plant, 3) as usize);

@@ -9,26 +9,29 @@ use native.Mathlib.Omega.{arith}
 use lib.Dec.{leb, eqb}
 use lib.ListN.{length}
 use borrow.Author.Tests.{eqb-true, eq-eqb}
-use Rattle.statements.specs.Plants.{Plant, plant_of, head_ok, plant_fault}
+use Rattle.statements.specs.Plants.{word, plant_of, head_ok, plant_fault}
 use Rattle.sets.proofs.Tests.{decided, not_both, and_left, and_right, and_true, and_iff, leb_iff, same_test}
 use Rattle.decoding.proofs.Faults.{plant_tests}
+use Rattle.decoding.proofs.Order.{arrows_length}
 use Rattle.format.specs.Checks.{labels_fine, arrows_fine}
 use Rattle.format.proofs.Faults.{no_plant_fault}
 use Rattle.layout.specs.Layout.{table_room, roomy}
 use Rattle.layout.specs.Passing.{Room}
 
--- the test of the room, by the numbers that the code compares, and what it tells
-pub room_is : (p : Plant) (table states : List ℕ) (count h : ℕ) → count ≡ length p.arrows
-    → h ≡ table_room (length table)
-    → (leb 1026 (length table) && (leb count h && leb count (length states))) ≡ roomy p table states
+-- the test as the code makes it, by the numbers that it compares
+pub load_test : (s table states : List ℕ) {count h : ℕ} {before : Bool} → count ≡ word 3 s → h ≡ table_room (length table)
+    → before ≡ (head_ok s && labels_fine (plant_of s))
+    → ((leb 1026 (length table) && (leb count h && leb count (length states))) && before)
+    ≡ (roomy (plant_of s) table states && (head_ok s && labels_fine (plant_of s)))
 unfolding roomy
-room_is p table states count h e f = rw (e, f)
+load_test s table states e f g = rw (e, f, g, arrows_length s)
 
-pub room_of : (p : Plant) (table states : List ℕ) → roomy p table states ≡ true
-    → Room (length p.arrows) (table_room (length table)) table states
+-- what it tells
+pub room_of : (s table states : List ℕ) → roomy (plant_of s) table states ≡ true
+    → Room (word 3 s) (table_room (length table)) table states
 unfolding roomy table_room
-room_of p table states h =
-    let k = simp (and_iff, leb_iff) at h in
+room_of s table states h =
+    let k = simp (and_iff, leb_iff, arrows_length s) at h in
     record { table_long = omega arith; table_fits = omega arith; states_fit = omega arith }
 
 and_all : (b : Bool) → (b && true) ≡ b

@@ -14,6 +14,7 @@ use Rattle.sets.proofs.Joined.{joined_length}
 use Rattle.layout.specs.Layout.{part_of, parts_of, all_parts, group_states, group_moves, group_ends, group_sizes}
 use Rattle.layout.specs.Layout.{group_counts, total, starts, bounds, numbered, group_begins, first_groups}
 use Rattle.layout.specs.Layout.{group_owners, table_room, Front, Layout}
+use Rattle.layout.specs.Loading.{loaded_of}
 use Rattle.layout.specs.Passing.{Laid, part, first_part, begins_part, moves_part, ends_part, owners_part, Room}
 use Rattle.layout.specs.Passing.{LaidIn}
 use Rattle.layout.proofs.Lengths.{starts_length}
@@ -89,6 +90,9 @@ module _ {p : Plant} {mask g n : ℕ} {first states moves begins ends owners : L
 
   pub arrows_count : n ≡ length (group_ends p mask)
   arrows_count = l.arrows_are ∙ sym (ends_length p mask)
+
+  pub loaded_is : record { groups = g; arrows = n } ≡ loaded_of p mask
+  loaded_is = cc (groups_count, arrows_count)
 
   -- the sum of the groups of all states
   pub count_sum : total (take p.states first) ≤ length p.arrows

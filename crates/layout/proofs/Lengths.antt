@@ -6,8 +6,8 @@ use Prim.Native.Nat.{ℕ, suc, ◌+◌, ◌-◌, ◌≤◌, ◌<◌}
 use native.Mathlib.Nat.{zero-add, add-zero}
 use native.Mathlib.Numerals.{add-one}
 use native.Mathlib.Omega.{arith}
-use lib.ListN.{length, get_or, take, drop, set, replicate, replicate-append-replicate}
-use lib.Seq.{length-take-le, take-suc, take-suc-set, take-add}
+use lib.ListN.{length, get_or, take, drop, set, replicate, length-replicate, replicate-append-replicate}
+use lib.Seq.{length-take-le, take-length, take-append-le, take-suc, take-suc-set, take-add}
 use Rattle.statements.specs.Sets.{over}
 use Rattle.sets.proofs.Over.{over_none, over_length, over_back, over_at_lem, over_one}
 use Rattle.layout.specs.Layout.{total, starts, bounds, numbered}
@@ -51,10 +51,16 @@ numbered_more k (m ∷ ns) n =
 pub replicate_more : (n v : ℕ) → replicate (n + 1) v ≡ replicate n v ++ (v ∷ [])
 replicate_more n v = sym (replicate-append-replicate n 1 v)
 
--- zeros written one after another
-pub clear_one : (first : List ℕ) (x : ℕ) → x < length first → take x first ≡ replicate x 0
-    → take (x + 1) (set first x 0) ≡ replicate (x + 1) 0
-clear_one first x h e = rw (replicate_more, add-one) (take-suc-set first x 0 h ∙ rw e)
+-- zeros written over the first numbers
+pub cleared : (t new : List ℕ) (n : ℕ) → n ≤ length t → new ≡ replicate (length (take n t)) 0
+    → take n (new ++ drop n t) ≡ replicate n 0
+cleared t new n h e =
+    let zeros : List ℕ = replicate n 0 in
+    let long : length zeros ≡ n = length-replicate {A = ℕ} n 0 in
+    let same : new ≡ zeros = rw e (ap (λ (m : ℕ). replicate m 0) (length-take-le n t h)) in
+    rw same
+    (take-append-le n zeros (drop n t) (omega arith)
+    ∙ ap (λ (m : ℕ). take m zeros) (sym long) ∙ take-length zeros)
 
 -- the first x lengths are summed up
 pub record Summed (old new : List ℕ) (x sum : ℕ) : Type 0 where

@@ -10,3 +10,4 @@ pub mod Storing
 pub mod Closing
 pub mod Accepted
 pub mod Served
+pub mod Options

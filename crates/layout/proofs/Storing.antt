@@ -1,6 +1,7 @@
 -- The pass in a table: what is known once the first k arrows are passed, and what the stores of a turn do to it.
 -- Assumes nothing.
 use mathlib.Core.Path.{◌≡◌, ap, ◌∙◌}
+use mathlib.Core.Bool.{true}
 use mathlib.Core.List.{List}
 use Prim.Native.Nat.{ℕ, ◌+◌, ◌-◌, ◌*◌, ◌≤◌, ◌<◌}
 use native.Mathlib.Omega.{arith}
@@ -8,9 +9,11 @@ use lib.Dec.{leb}
 use lib.ListN.{length, get_or, take, set, replicate, length-set}
 use lib.Seq.{take-take}
 use Rattle.statements.specs.Sets.{pick, bit}
-use Rattle.statements.specs.Plants.{word}
+use Rattle.statements.specs.Plants.{word, head_ok}
 use Rattle.format.specs.declared.arrows.Arrow.{Arrow as ReadArrow}
-use Rattle.format.proofs.Header.{PlantHead, plant_states}
+use Rattle.format.specs.Arrows.{arrow_in}
+use Rattle.format.specs.Checks.{least_after}
+use Rattle.format.proofs.Header.{PlantHead, plant_head, plant_states, plant_moves}
 use Rattle.layout.specs.Passing.{part, first_part, begins_part, moves_part, ends_part, owners_part, Room}
 use Rattle.layout.proofs.Turns.{Spare}
 use Rattle.layout.proofs.Passed.{key, Passed, Taken, pass_start, pass_turn, pass_small, pass_count}
@@ -117,3 +120,15 @@ module _ {s : List ℕ} {mask k least g n h : ℕ} {table states : List ℕ} (ro
 
       pub same_in : (length table' ≡ length table) × (length states' ≡ length states)
       same_in = (ap length stored ∙ simp length-set, ap length e₂ ∙ simp length-set)
+
+-- arrow k as it is read and checked, from what the code reads
+pub taken_of : {s : List ℕ} {states moves count k least next : ℕ} {b : ReadArrow} → head_ok s ≡ true → states ≡ word 0 s
+    → moves ≡ word 1 s → count ≡ word 3 s → k < count → b ≡ arrow_in s k → next ≡ least_after states moves least b
+    → Taken s k least b next
+taken_of {s} ok e f g low read next =
+    record {
+      head = plant_head s ok;
+      more = rw g at low;
+      read = read;
+      next_is = rw (plant_states s, plant_moves s, ← e, ← f) next;
+    }

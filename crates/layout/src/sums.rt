@@ -1,18 +1,6 @@
-// The array of first groups: cleared before the groups of each state are counted in it, and summed up afterwards.
-ghost use Rattle.std.specs.Prelude.{◌≡◌, suc, ◌<◌, ◌≤◌, length, take, replicate};
+// The array of first groups: the groups of each state are counted in it, and summed up afterwards.
+ghost use Rattle.std.specs.Prelude.{◌≡◌, suc, ◌<◌, length, take};
 ghost use Rattle.layout.specs.Layout.{total, bounds};
-
-// Puts 0 at the first places.
-pub(crate) fn clear(first: &mut [u16], count: u16)
-    requires { count ≤ length first.old }
-    ensures { take count first.new ≡ replicate count 0 }
-{
-    let mut x: u16 = 0;
-    while x < count {
-        first[x as usize] = 0;
-        x += 1;
-    }
-}
 
 // Turns the first numbers, the lengths of some parts, into where these begin, with one more, where the last one stops.
 pub(crate) fn bound(first: &mut [u16], count: u16)
@@ -20,14 +8,12 @@ pub(crate) fn bound(first: &mut [u16], count: u16)
     requires small { total (take count first.old) < 65536 }
     ensures { take (suc count) first.new ≡ bounds (take count first.old) }
 {
-    let mut x: u16 = 0;
+    let last = usize::from(count);
     let mut sum: u16 = 0;
-    while x < count {
-        let place = x as usize;
-        let size = first[place];
-        first[place] = sum;
+    for x in 0..last {
+        let size = first[x];
+        first[x] = sum;
         sum += size;
-        x += 1;
     }
-    first[x as usize] = sum;
+    first[last] = sum;
 }

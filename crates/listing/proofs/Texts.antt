@@ -18,9 +18,7 @@ use Rattle.sets.proofs.Tests.{decided}
 use Rattle.decoding.proofs.Faults.{book_ok}
 use Rattle.listing.specs.Text.{figure, of_text, kept_text, moves_text, space, newline, lost_text}
 use Rattle.listing.specs.Text.{head_text, line_text, state_text, book_text, listing}
-use Rattle.listing.specs.Buffers.{Wrote}
 use Rattle.listing.proofs.Digits.{figure_few}
-use Rattle.listing.proofs.Writing.{wrote_then}
 
 -- a line is as long as its four figures
 pub line_long : (b : List ℕ) (x i : ℕ) → length (line_text b x i) ≡ length (figure x space)
@@ -50,12 +48,6 @@ pub book_long_lem : (b : List ℕ) (n : ℕ) → n ≡ book_states b
     → length (book_text b) ≡ length (head_text b) + length (joined n 0 (state_text b))
 unfolding book_text
 book_long_lem b n e = rw e (length-append (head_text b) (joined (book_states b) 0 (state_text b)))
-
--- the first line is put, then the states' lines
-pub book_wrote : (b : List ℕ) (n : ℕ) {o₁ o₂ o₃ : List ℕ} {at₂ at₃ : ℕ} → n ≡ book_states b
-    → Wrote o₁ 0 (head_text b) at₂ o₂ → Wrote o₂ at₂ (joined n 0 (state_text b)) at₃ o₃ → Wrote o₁ 0 (book_text b) at₃ o₃
-unfolding book_text
-book_wrote b n e w v = rw (← e) (wrote_then w v)
 
 -- parts of at most so many bytes
 joined_few : (part : ℕ → List ℕ) (size n x : ℕ) → ((k : ℕ) → x ≤ k → k < x + n → length (part k) ≤ size)

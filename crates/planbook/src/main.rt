@@ -4,10 +4,10 @@
 
 mod input;
 
-ghost use Rattle.std.specs.Prelude.{◌≡◌, ◌≤◌, length};
+ghost use Rattle.std.specs.Prelude.{◌≡◌, ◌≤◌, true, false, length, IfOk, MatchResult};
 ghost use Rattle.planbook.specs.Printed.{Printed};
 
-use input::Input;
+use std::io;
 use std::io::{Eprint, Print};
 
 // Room for the input: the longest plant has 51,216 bytes and 16 masks have 64. With one byte more the masks are bad, so
@@ -27,33 +27,33 @@ fn output_buffer() -> [u8; 200000]
 
 // The text to print, as the first bytes of `out`: the answer to an input that was read to its end, or as far as the
 // buffer goes; nothing after a failed read.
-fn answer<'a>(buffer: &[u8], read: Input, out: &'a mut [u8]) -> &'a mut [u8]
+fn answer<'a>(buffer: &[u8], read: io::Result<usize>, out: &'a mut [u8]) -> &'a mut [u8]
     requires input { 51281 ≤ length buffer.now }
-    requires count { read.count ≤ length buffer.now }
+    requires count { IfOk read (λ count. count ≤ length buffer.now) }
     requires output { 200000 ≤ length out.old }
-    ensures { Printed buffer.now read.count read.failed result.now }
+    ensures { MatchResult read
+        (λ count. Printed buffer.now count false result.now)
+        (λ _. Printed buffer.now 0 true result.now) }
 {
-    if read.failed {
-        return &mut out[..0];
+    match read {
+        Ok(count) => {
+            let long = reply::reply(&buffer[..count], out) as usize;
+            &mut out[..long]
+        }
+        Err(_) => &mut out[..0],
     }
-    let count = read.count;
-    let long = reply::reply(&buffer[..count], out) as usize;
-    &mut out[..long]
 }
 
 // A line on standard error. Where that cannot be written either, there is nobody left to tell.
 fn say(rt: &impl Eprint, text: &str) {
-    match rt.eprintln(text) {
-        Ok(()) => {}
-        Err(_) => {}
-    }
+    let _ = rt.eprintln(text);
 }
 
 fn main(rt: HostRuntime) {
     let mut input = input_buffer();
     let mut out = output_buffer();
     let read = input::read_all(&mut rt.stdin(), &mut input);
-    if read.failed {
+    if read.is_err() {
         say(&rt, "planbook: standard input could not be read");
     }
     let text = answer(&input, read, &mut out);

@@ -5,7 +5,7 @@ use mathlib.Core.List.{List}
 use Prim.Native.Nat.{ℕ}
 use Rattle.statements.specs.Sets.{pick}
 use Rattle.promises.specs.Says.{Advises}
-use Rattle.desk.specs.declared.Desk as answered
+use Rattle.desk.specs.Desk as answered
 use Rattle.desk.specs.Desk.{StartSays, ReportSays}
 use Rattle.planbook_c.specs.declared.Desk.{Desk}
 use Rattle.planbook_c.specs.Flat.{Flattens, Shows, StartIs, ReportIs}

@@ -5,10 +5,9 @@ use Rattle.statements.specs.Books.{is_lost, wait_at, move_at, arrive}
 use Rattle.statements.specs.Calls.{consult_fault, moves_fault, row_part}
 use Rattle.promises.specs.Says.{accepted, keeps, row_start}
 use Rattle.gauge.specs.Bands.{deviation_of, gauge_fault, band_at, is_found}
-use Rattle.promises.specs.declared.Answer as planner
-use Rattle.promises.specs.declared.Cost as planner_cost
-use Rattle.promises.specs.declared.Mask as planner_mask
-use Rattle.desk.specs.declared.Desk as planner_desk
+use Rattle.promises.specs.Answers as planner
+use Rattle.gauge.specs.Bands as planner_gauge
+use Rattle.desk.specs.Desk as planner_desk
 use Rattle.desk.specs.Desk.{report_fault, goal_held}
 use Rattle.planbook_c.specs.declared.Answer.{Answer}
 use Rattle.planbook_c.specs.declared.Cost.{Cost}
@@ -23,11 +22,11 @@ abbrev pub plain : Answer → planner.Answer
 plain r = record { number = r.number; length = r.length; drops = r.drops }
 
 -- an answer of preview with the planner's own type
-abbrev pub plain_cost : Cost → planner_cost.Cost
+abbrev pub plain_cost : Cost → planner.Cost
 plain_cost r = record { number = r.number; drops = r.drops; kept = r.kept }
 
 -- an answer of the call for all good moves with the planner's own type
-abbrev pub plain_mask : Mask → planner_mask.Mask
+abbrev pub plain_mask : Mask → planner.Mask
 plain_mask r = record { number = r.number; mask = r.mask }
 
 -- consulting a book b for a state x and the goal i sought: a refusal's number or 0; 1 for a lost state; or the move and
@@ -56,6 +55,20 @@ pub record PlaceIs (kinds : List ℕ) (ends : List Float) (states : List ℕ) (s
   pub state : r.state ≡
       pick (is_found kinds ends states s reading aim)
       (get_or states (band_at kinds ends states (deviation_of reading aim)) 0) 0
+
+-- an answer of consult, field by field, with 1 for a lost state
+pub record FlatAdvice (r : planner.Advice) (f : Advice) : Type 0 where
+  pub number : f.number ≡ r.number
+  pub lost : f.lost ≡ pick r.lost 1 0
+  pub action : f.action ≡ r.action
+  pub wait : f.wait ≡ r.wait
+  pub seek : f.seek ≡ r.seek
+
+-- an answer of the gauge call, field by field, with 1 where a band holds the deviation
+pub record FlatPlace (r : planner_gauge.Place) (f : Place) : Type 0 where
+  pub number : f.number ≡ r.number
+  pub found : f.found ≡ pick r.found 1 0
+  pub state : f.state ≡ r.state
 
 -- an answer of the desk, field by field, with 1 for a lost state
 pub record Flattens (r : planner_desk.Desk) (f : Desk) : Type 0 where

@@ -3,16 +3,22 @@
 #![tactic(auto)]
 
 ghost use Rattle.std.specs.Prelude.{◌≡◌};
-ghost use Rattle.statements.specs.Sets.{pick};
+ghost use Rattle.promises.specs.Answers.{answer_of, cost_of, advice_of, mask_of};
 ghost use Rattle.promises.specs.Says.{MakeSays, WithdrawSays, WithdrawListSays, ReturnSays, IndexSays, PreviewSays};
 ghost use Rattle.promises.specs.Says.{MakeIndexedSays, WithdrawIndexedSays, MovesSays};
-ghost use Rattle.planbook_c.specs.Flat.{plain, plain_cost, plain_mask, AdviceSays, PartSays, PlaceIs};
-ghost use Rattle.planbook_c.specs.Flat.{Flattens, StartIs, ReportIs};
+ghost use Rattle.gauge.specs.Bands.{place_of};
+ghost use Rattle.desk.specs.Desk.{desk_of};
+ghost use Rattle.planbook_c.specs.Flat.{plain, plain_cost, plain_mask, FlatAdvice, FlatPlace, Flattens};
+ghost use Rattle.planbook_c.specs.Flat.{AdviceSays, PartSays, PlaceIs, StartIs, ReportIs};
+
+use desk::AtDesk;
+use promises::{Advised, Preview, Wrote};
+use refusal::Refusal;
 
 // What make, withdraw, a list of withdrawals, return and index answer: a refusal's number or 0, the length of the book
 // or index, the number of states listed, which a return has gained and the others have dropped.
 #[repr(C)]
-#[derive(Clone, Copy)]
+#[derive(Clone, Copy, Default)]
 pub struct Answer {
     pub number: u32,
     pub length: u32,
@@ -22,7 +28,7 @@ pub struct Answer {
 // What preview answers: a refusal's number or 0, the number of states that the withdrawal would drop and that of the
 // states it would keep.
 #[repr(C)]
-#[derive(Clone, Copy)]
+#[derive(Clone, Copy, Default)]
 pub struct Cost {
     pub number: u32,
     pub drops: u32,
@@ -32,7 +38,7 @@ pub struct Cost {
 // What consult answers: a refusal's number or 0, 1 for a lost state, or the move and the wait of the goal arrived at,
 // and that goal, to be sought from here on.
 #[repr(C)]
-#[derive(Clone, Copy)]
+#[derive(Clone, Copy, Default)]
 pub struct Advice {
     pub number: u32,
     pub lost: u32,
@@ -43,7 +49,7 @@ pub struct Advice {
 
 // What the call for all good moves answers: a refusal's number or 0, and the moves, bit u for move u.
 #[repr(C)]
-#[derive(Clone, Copy)]
+#[derive(Clone, Copy, Default)]
 pub struct Mask {
     pub number: u32,
     pub mask: u32,
@@ -60,7 +66,7 @@ pub struct Part {
 
 // What the gauge call answers: a refusal's number or 0, 1 if a band holds the deviation, and that band's state.
 #[repr(C)]
-#[derive(Clone, Copy)]
+#[derive(Clone, Copy, Default)]
 pub struct Place {
     pub number: u32,
     pub found: u32,
@@ -81,22 +87,113 @@ pub struct Desk {
     pub goal: u32,
 }
 
-// The planner's answer as a struct of 32-bit numbers.
-fn flat(r: promises::Answer) -> Answer
-    ensures { plain result ≡ r }
-{
-    Answer {
-        number: r.number as u32,
-        length: r.length,
-        drops: r.drops,
+impl From<Result<Wrote, Refusal>> for Answer {
+    ghost from_gives = { λ r a. plain a ≡ answer_of r };
+
+    fn from(r: Result<Wrote, Refusal>) -> Self {
+        match r {
+            Ok(written) => Answer {
+                number: 0,
+                length: written.length,
+                drops: written.drops,
+            },
+            Err(why) => Answer {
+                number: u32::from(why.number()),
+                ..Self::default()
+            },
+        }
     }
 }
 
-// 1 for true, 0 for false.
-fn one(b: bool) -> u32
-    ensures { result ≡ pick b 1 0 }
-{
-    if b { 1 } else { 0 }
+impl From<Result<Preview, Refusal>> for Cost {
+    ghost from_gives = { λ r a. plain_cost a ≡ cost_of r };
+
+    fn from(r: Result<Preview, Refusal>) -> Self {
+        match r {
+            Ok(preview) => Cost {
+                number: 0,
+                drops: preview.drops,
+                kept: preview.kept,
+            },
+            Err(why) => Cost {
+                number: u32::from(why.number()),
+                ..Self::default()
+            },
+        }
+    }
+}
+
+impl From<Advised> for Advice {
+    ghost from_gives = { λ r a. FlatAdvice (advice_of r) a };
+
+    fn from(r: Advised) -> Self {
+        match r {
+            Ok(Some(next)) => Advice {
+                action: u32::from(next.action),
+                wait: u32::from(next.wait),
+                seek: u32::from(next.seek),
+                ..Self::default()
+            },
+            Ok(None) => Advice {
+                lost: 1,
+                ..Self::default()
+            },
+            Err(why) => Advice {
+                number: u32::from(why.number()),
+                ..Self::default()
+            },
+        }
+    }
+}
+
+impl From<Result<u32, Refusal>> for Mask {
+    ghost from_gives = { λ r a. plain_mask a ≡ mask_of r };
+
+    fn from(r: Result<u32, Refusal>) -> Self {
+        match r {
+            Ok(mask) => Mask { number: 0, mask },
+            Err(why) => Mask {
+                number: u32::from(why.number()),
+                ..Self::default()
+            },
+        }
+    }
+}
+
+impl From<Result<Option<u32>, Refusal>> for Place {
+    ghost from_gives = { λ r a. FlatPlace (place_of r) a };
+
+    fn from(r: Result<Option<u32>, Refusal>) -> Self {
+        match r {
+            Ok(Some(state)) => Place {
+                number: 0,
+                found: 1,
+                state,
+            },
+            Ok(None) => Self::default(),
+            Err(why) => Place {
+                number: u32::from(why.number()),
+                ..Self::default()
+            },
+        }
+    }
+}
+
+impl From<AtDesk> for Desk {
+    ghost from_gives = { λ r a. Flattens (desk_of r) a };
+
+    fn from(r: AtDesk) -> Self {
+        let shown = Advice::from(r.advice);
+        Desk {
+            number: shown.number,
+            lost: shown.lost,
+            action: shown.action,
+            wait: shown.wait,
+            seek: shown.seek,
+            state: r.state,
+            goal: r.goal,
+        }
+    }
 }
 
 // Takes a plant, a mask and a book buffer. Writes the book and returns its length.
@@ -104,7 +201,7 @@ fn one(b: bool) -> u32
 pub extern "C" fn planbook_make(plant: &[u8], mask: u32, book: &mut [u8]) -> Answer
     ensures { MakeSays plant.now mask book.old book.new (plain result) }
 {
-    flat(books::make_book(plant, mask, book))
+    Answer::from(books::make_book(plant, mask, book))
 }
 
 // Takes a plant, a book, a mask of moves to withdraw, a book buffer and a drop buffer. Writes the book and, by rising
@@ -120,7 +217,7 @@ pub extern "C" fn planbook_withdraw(
     ensures { WithdrawSays plant.now book.now mask
         out.old out.new drops.old drops.new (plain result) }
 {
-    flat(books::withdraw_moves(plant, book, mask, out, drops))
+    Answer::from(books::withdraw_moves(plant, book, mask, out, drops))
 }
 
 // Takes a plant, a book, a list of up to 16 masks of moves to withdraw, four bytes each, a book buffer and a drop
@@ -137,7 +234,7 @@ pub extern "C" fn planbook_withdraw_list(
     ensures { WithdrawListSays plant.now book.now masks.now
         out.old out.new drops.old drops.new (plain result) }
 {
-    flat(books::withdraw_list(plant, book, masks, out, drops))
+    Answer::from(books::withdraw_list(plant, book, masks, out, drops))
 }
 
 // Takes a plant, a book, a mask of moves to return, a book buffer and a drop buffer. Writes the book of a make with the
@@ -154,7 +251,7 @@ pub extern "C" fn planbook_return(
     ensures { ReturnSays plant.now book.now mask
         out.old out.new gained.old gained.new (plain result) }
 {
-    flat(books::return_moves(plant, book, mask, out, gained))
+    Answer::from(books::return_moves(plant, book, mask, out, gained))
 }
 
 // Takes a plant and a buffer. Writes the plant's index and returns its length.
@@ -162,7 +259,7 @@ pub extern "C" fn planbook_return(
 pub extern "C" fn planbook_index(plant: &[u8], index: &mut [u8]) -> Answer
     ensures { IndexSays plant.now index.old index.new (plain result) }
 {
-    flat(books::index_plant(plant, index))
+    Answer::from(books::index_plant(plant, index))
 }
 
 // Takes a plant, its index, a mask and a book buffer. Writes the very book that planbook_make writes and returns its
@@ -177,7 +274,7 @@ pub extern "C" fn planbook_make_indexed(
     ensures { MakeIndexedSays plant.now index.now mask
         book.old book.new (plain result) }
 {
-    flat(books::make_indexed(plant, index, mask, book))
+    Answer::from(books::make_indexed(plant, index, mask, book))
 }
 
 // Takes a plant, its index, a book, a mask of moves to withdraw, a book buffer and a drop buffer. Writes the very book
@@ -194,7 +291,7 @@ pub extern "C" fn planbook_withdraw_indexed(
     ensures { WithdrawIndexedSays plant.now index.now book.now mask
         out.old out.new drops.old drops.new (plain result) }
 {
-    flat(books::withdraw_indexed(plant, index, book, mask, out, drops))
+    Answer::from(books::withdraw_indexed(plant, index, book, mask, out, drops))
 }
 
 // Takes a plant, a book, a mask of moves to withdraw and a drop buffer. Writes, by rising number, the states that the
@@ -204,12 +301,7 @@ pub extern "C" fn planbook_preview(plant: &[u8], book: &[u8], mask: u32, drops: 
     ensures { PreviewSays plant.now book.now mask
         drops.old drops.new (plain_cost result) }
 {
-    let r = books::preview_withdrawal(plant, book, mask, drops);
-    Cost {
-        number: r.number as u32,
-        drops: r.drops,
-        kept: r.kept,
-    }
+    Cost::from(books::preview_withdrawal(plant, book, mask, drops))
 }
 
 // Takes a book, a state and the goal sought. Answers lost, or the goal arrived at, where every goal that the state
@@ -218,14 +310,7 @@ pub extern "C" fn planbook_preview(plant: &[u8], book: &[u8], mask: u32, drops: 
 pub extern "C" fn planbook_consult(book: &[u8], state: u32, goal: u32) -> Advice
     ensures { AdviceSays book.now state goal result }
 {
-    let r = consult::consult_book(book, state, goal);
-    Advice {
-        number: r.number as u32,
-        lost: one(r.lost),
-        action: r.action as u32,
-        wait: r.wait as u32,
-        seek: r.seek as u32,
-    }
+    Advice::from(consult::consult_book(book, state, goal))
 }
 
 // Takes a plant, a book, a state and the goal sought. Answers all moves that meet the rule of the entry of the goal
@@ -234,11 +319,7 @@ pub extern "C" fn planbook_consult(book: &[u8], state: u32, goal: u32) -> Advice
 pub extern "C" fn planbook_moves(plant: &[u8], book: &[u8], state: u32, goal: u32) -> Mask
     ensures { MovesSays plant.now book.now state goal (plain_mask result) }
 {
-    let r = consult::good_moves(plant, book, state, goal);
-    Mask {
-        number: r.number as u32,
-        mask: r.mask,
-    }
+    Mask::from(consult::good_moves(plant, book, state, goal))
 }
 
 // Takes a book and a state and tells where in the book that state's row stands.
@@ -249,7 +330,7 @@ pub extern "C" fn planbook_row(book: &[u8], state: u32) -> Part
     let row = consult::state_row(book, state);
     if row.len() == 0 {
         return Part {
-            number: consult::consult_book(book, state, 0).number as u32,
+            number: Advice::from(consult::consult_book(book, state, 0)).number,
             start: 0,
             length: 0,
         };
@@ -277,28 +358,7 @@ pub extern "C" fn planbook_gauge(
         reading aim result }
 {
     let shown = gauge::Gauge { reading, aim };
-    let r = gauge::find_place(kinds, ends, band_states, states, shown);
-    Place {
-        number: r.number as u32,
-        found: one(r.found),
-        state: r.state,
-    }
-}
-
-// The desk's answer as a struct of 32-bit numbers.
-fn flat_desk(r: desk::Desk) -> Desk
-    ensures { Flattens r result }
-{
-    let a = r.advice;
-    Desk {
-        number: a.number as u32,
-        lost: one(a.lost),
-        action: a.action as u32,
-        wait: a.wait as u32,
-        seek: a.seek as u32,
-        state: r.state,
-        goal: r.goal,
-    }
+    Place::from(gauge::find_place(kinds, ends, band_states, states, shown))
 }
 
 // Takes a plant, a book and a state. The desk starts there, seeking goal 0: answers what consult does, and what the
@@ -307,7 +367,7 @@ fn flat_desk(r: desk::Desk) -> Desk
 pub extern "C" fn planbook_start(plant: &[u8], book: &[u8], state: u32) -> Desk
     ensures { StartIs plant.now book.now state result }
 {
-    flat_desk(desk::start_desk(plant, book, state))
+    Desk::from(desk::start_desk(plant, book, state))
 }
 
 // Takes a plant, a book, the state and the goal that the desk holds, and the state that followed. Answers what consult
@@ -322,5 +382,5 @@ pub extern "C" fn planbook_report(
 ) -> Desk
     ensures { ReportIs plant.now book.now held_state held_goal reported result }
 {
-    flat_desk(desk::report_state(plant, book, held_state, held_goal, reported))
+    Desk::from(desk::report_state(plant, book, held_state, held_goal, reported))
 }

@@ -3,11 +3,11 @@
 use mathlib.Core.Path.{◌≡◌, sym, ap, ◌∙◌}
 use mathlib.Core.List.{List}
 use Prim.Native.Nat.{ℕ}
-use Rattle.promises.specs.declared.Advice.{Advice}
-use Rattle.promises.specs.declared.Answer.{Answer}
-use Rattle.promises.specs.declared.Cost.{Cost}
-use Rattle.promises.specs.declared.Mask.{Mask}
-use Rattle.promises.specs.declared.Stepped.{Stepped}
+use Rattle.promises.specs.Answers.{Advice}
+use Rattle.promises.specs.Answers.{Answer}
+use Rattle.promises.specs.Answers.{Cost}
+use Rattle.promises.specs.Answers.{Mask}
+use Rattle.promises.specs.Answers.{Stepped}
 use Rattle.promises.specs.Says.{Advises, StepSays, Writes, Determined}
 
 -- answers with the same fields are the same

@@ -12,7 +12,7 @@ use Rattle.statements.specs.Calls.{whole_masks, lent_fault, withdraw_list_fault,
 use Rattle.sets.proofs.Tests.{same_number}
 use Rattle.decoding.proofs.Faults.{list_as, list_parts, list_masks}
 use Rattle.demands.proofs.InTurn.{list_book, in_turn_lem}
-use Rattle.promises.specs.declared.Answer.{Answer}
+use Rattle.promises.specs.Answers.{Answer}
 use Rattle.promises.specs.Says.{Writes, WithdrawSays, WithdrawListSays}
 use Rattle.promises.specs.InTurn.{InTurnTraced}
 use Rattle.promises.proofs.Read.{no_fault, book_read}

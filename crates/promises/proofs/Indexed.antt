@@ -12,7 +12,7 @@ use Rattle.statements.specs.Calls.{by_index, indexing_fault, Ask, Effect, effect
 use Rattle.decoding.proofs.Faults.{first_iff}
 use Rattle.decoding.proofs.Indexed.{index_size, make_low, withdraw_low, by_parts, by_ten}
 use Rattle.demands.proofs.ByIndex.{by_index_lem}
-use Rattle.promises.specs.declared.Answer.{Answer}
+use Rattle.promises.specs.Answers.{Answer}
 use Rattle.promises.specs.Says.{Writes, Says, MakeSays, WithdrawSays, MakeIndexedSays, WithdrawIndexedSays}
 use Rattle.promises.specs.Indexed.{Indexed}
 use Rattle.promises.proofs.Read.{no_fault, book_read}

@@ -13,3 +13,4 @@ pub mod Written
 pub mod Steps
 pub mod Walked
 pub mod Demands
+pub mod Numbered

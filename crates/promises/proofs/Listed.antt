@@ -16,7 +16,7 @@ use Rattle.decoding.proofs.Sizes.{bytes_length, dropped_few, drops_fit}
 use Rattle.decoding.proofs.Faults.{withdraw_ok}
 use Rattle.demands.proofs.Demand2.{dropped_iff, dropped_rising}
 use Rattle.demands.proofs.Returning.{gained_dropped, returning}
-use Rattle.promises.specs.declared.Answer.{Answer}
+use Rattle.promises.specs.Answers.{Answer}
 use Rattle.promises.specs.Says.{WithdrawSays, ReturnSays, Lists}
 use Rattle.promises.proofs.Read.{no_fault, book_read, drops_are, list_is}
 

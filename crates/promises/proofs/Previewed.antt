@@ -11,7 +11,7 @@ use Rattle.statements.specs.Books.{bytes_of, book_long, book_count, withdrawn_bo
 use Rattle.statements.specs.Calls.{withdraw_fault}
 use Rattle.decoding.proofs.Faults.{withdraw_ok, preview_as}
 use Rattle.demands.proofs.Demand2.{demand_2}
-use Rattle.promises.specs.declared.Cost.{Cost}
+use Rattle.promises.specs.Answers.{Cost}
 use Rattle.promises.specs.Says.{PreviewSays}
 use Rattle.promises.specs.Previews.{Previews}
 use Rattle.promises.proofs.Read.{book_read, drops_are, list_is}

@@ -9,7 +9,7 @@ use Rattle.statements.specs.Sets.{over}
 use Rattle.statements.specs.Plants.{plant_of}
 use Rattle.statements.specs.Books.{bytes_of, made_book}
 use Rattle.sets.proofs.Over.{over_back}
-use Rattle.promises.specs.declared.Answer.{Answer}
+use Rattle.promises.specs.Answers.{Answer}
 use Rattle.promises.specs.Says.{MakeSays, Writes}
 
 -- what an accepted call that writes a book and lists states returns, and leaves in its buffers

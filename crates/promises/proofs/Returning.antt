@@ -11,7 +11,7 @@ use Rattle.statements.specs.Books.{dropped_states}
 use Rattle.statements.specs.Calls.{make_fault, withdraw_fault}
 use Rattle.decoding.proofs.Faults.{withdraw_make}
 use Rattle.demands.proofs.Returning.{returning}
-use Rattle.promises.specs.declared.Answer.{Answer}
+use Rattle.promises.specs.Answers.{Answer}
 use Rattle.promises.specs.Says.{MakeSays, WithdrawSays, ReturnSays}
 use Rattle.promises.specs.Traces.{Begun, book_after, service_after}
 use Rattle.promises.specs.Returning.{ReturningTraced}

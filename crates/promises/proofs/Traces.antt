@@ -15,7 +15,7 @@ use Rattle.statements.specs.Calls.{mask_fault, book_room, make_fault, effect_of,
 use Rattle.statements.specs.Calls.{answers, in_service}
 use Rattle.decoding.proofs.Faults.{make_ok}
 use Rattle.demands.proofs.Demand3.{service_ok, demand_3}
-use Rattle.promises.specs.declared.Answer.{Answer}
+use Rattle.promises.specs.Answers.{Answer}
 use Rattle.promises.specs.Says.{MakeSays}
 use Rattle.promises.specs.Traces.{Step, Keeps}
 use Rattle.promises.specs.Traces.{next_book, last_book, Trace, numbers_in, call_of, calls_of, AnyMake, Begun}

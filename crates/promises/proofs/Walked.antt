@@ -18,8 +18,8 @@ use Rattle.sets.proofs.Tests.{not_both}
 use Rattle.sets.proofs.Bits.{bit_none}
 use Rattle.decoding.proofs.Faults.{first_iff}
 use Rattle.decoding.proofs.Asked as asked
-use Rattle.promises.specs.declared.Advice.{Advice}
-use Rattle.promises.specs.declared.Mask.{Mask}
+use Rattle.promises.specs.Answers.{Advice}
+use Rattle.promises.specs.Answers.{Mask}
 use Rattle.promises.specs.Says.{accepted, keeps, ConsultSays, MovesSays}
 use Rattle.promises.specs.Walks.{Taken, WalksTo, Answered, Walk, Walked, Walking, Walks}
 use Rattle.promises.specs.Steps.{WrittenFor, standing, withdrawn, withdrawn_list_lem, returned, made_by, withdrawn_by}

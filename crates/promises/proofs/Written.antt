@@ -9,7 +9,7 @@ use Rattle.statements.specs.Demands.{Allowed, KeptBefore, Right}
 use Rattle.demands.proofs.Demand2.{demand_2}
 use Rattle.demands.proofs.InTurn.{in_turn_lem}
 use Rattle.demands.proofs.Returning.{returning}
-use Rattle.promises.specs.declared.Answer.{Answer}
+use Rattle.promises.specs.Answers.{Answer}
 use Rattle.promises.specs.Says.{MakeSays, WithdrawSays}
 use Rattle.promises.specs.Written.{Demand2Written}
 use Rattle.promises.proofs.Read.{no_fault, book_read}

@@ -1,6 +1,6 @@
 -- Request (x) of calls as they went: the row of a state in the books that two plants' calls wrote.
 use Rattle.std.specs.Prelude.{◌≡◌, List, ℕ, ◌<◌, take}
-use Rattle.promises.specs.declared.Answer.{Answer}
+use Rattle.promises.specs.Answers.{Answer}
 use Rattle.statements.specs.Plants.{plant_of}
 use Rattle.statements.specs.Calls.{row_part}
 use Rattle.statements.specs.Elsewhere.{AgreeFrom, SameFigures}

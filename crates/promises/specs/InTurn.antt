@@ -1,7 +1,7 @@
 -- What a list of withdrawals has to do with its single ones, and with one of all moves that its masks name: the
 -- contracts against each other. The book lent may be one that nobody made.
 use Rattle.std.specs.Prelude.{◌≡◌, true, List, ℕ, length, take}
-use Rattle.promises.specs.declared.Answer.{Answer}
+use Rattle.promises.specs.Answers.{Answer}
 use Rattle.statements.specs.Sets.{is_in}
 use Rattle.statements.specs.Books.{masks_of, union_of}
 use Rattle.statements.specs.Calls.{whole_masks, singles}

@@ -1,7 +1,7 @@
 -- What the calls by an index have to do with the plain ones and with the call that builds it: the contracts against
 -- each other.
 use Rattle.std.specs.Prelude.{◌≡◌, ◌↔◌, List, ℕ, length, take}
-use Rattle.promises.specs.declared.Answer.{Answer}
+use Rattle.promises.specs.Answers.{Answer}
 use Rattle.statements.specs.Plants.{plant_of, plant_fault}
 use Rattle.statements.specs.Index.{index_long, index_bytes}
 use Rattle.promises.specs.Says.{MakeSays, WithdrawSays, IndexSays, MakeIndexedSays, WithdrawIndexedSays}

@@ -1,7 +1,7 @@
 -- What a preview has to do with the withdrawal: both contracts against each other.
 use Rattle.std.specs.Prelude.{◌≡◌, List, ℕ, ◌+◌, ◌≤◌, length, take}
-use Rattle.promises.specs.declared.Answer.{Answer}
-use Rattle.promises.specs.declared.Cost.{Cost}
+use Rattle.promises.specs.Answers.{Answer}
+use Rattle.promises.specs.Answers.{Cost}
 use Rattle.statements.specs.Plants.{words, plant_of}
 use Rattle.statements.specs.Books.{book_long, book_count, withdrawn_book}
 use Rattle.promises.specs.Says.{WithdrawSays, PreviewSays, Lists}

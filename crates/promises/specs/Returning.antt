@@ -2,7 +2,7 @@
 -- contracts against each other.
 use Rattle.std.specs.Prelude.{◌≡◌, List, ℕ, ◌+◌, length, take}
 use Rattle.std.specs.Int.Bits.{bit_or}
-use Rattle.promises.specs.declared.Answer.{Answer}
+use Rattle.promises.specs.Answers.{Answer}
 use Rattle.statements.specs.Plants.{words}
 use Rattle.statements.specs.Books.{book_count, book_mask}
 use Rattle.promises.specs.Says.{MakeSays, WithdrawSays, ReturnSays, Lists}

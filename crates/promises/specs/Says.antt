@@ -1,10 +1,10 @@
 -- What the public calls promise, field by field, in the definitions of crate statements.
 use Rattle.std.specs.Prelude.{◌≡◌, ◌↔◌, Bool, true, false, ◌&&◌, not, List, [], ℕ, ◌+◌, ◌*◌, ◌<◌, eqb, length, take, drop}
-use Rattle.promises.specs.declared.Advice.{Advice}
-use Rattle.promises.specs.declared.Answer.{Answer}
-use Rattle.promises.specs.declared.Cost.{Cost}
-use Rattle.promises.specs.declared.Mask.{Mask}
-use Rattle.promises.specs.declared.Stepped.{Stepped}
+use Rattle.promises.specs.Answers.{Advice}
+use Rattle.promises.specs.Answers.{Answer}
+use Rattle.promises.specs.Answers.{Cost}
+use Rattle.promises.specs.Answers.{Mask}
+use Rattle.promises.specs.Answers.{Stepped}
 use Rattle.statements.specs.Sets.{pick, over, is_in}
 use Rattle.statements.specs.Plants.{first_of, words, plant_of, ends}
 use Rattle.statements.specs.Books.{bytes_of, book_count, row_place, wait_at, move_at, is_lost, arrive, good_moves}

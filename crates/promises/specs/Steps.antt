@@ -1,7 +1,7 @@
 -- Following a book step by step: the books that the calls write for a plant, and what their rows, moves and arrows come
 -- to for one who makes the listed moves and is told where they led. Nothing need be known of how a book is worked out.
 use Rattle.std.specs.Prelude.{◌≡◌, ◌↔◌, true, false, List, ℕ, ◌≤◌, ◌<◌, take}
-use Rattle.promises.specs.declared.Answer.{Answer}
+use Rattle.promises.specs.Answers.{Answer}
 use Rattle.statements.specs.Sets.{is_in}
 use Rattle.statements.specs.Plants.{plant_of, ends, available}
 use Rattle.statements.specs.Books.{book_goals, book_mask, wait_at, move_at, is_lost, arrive}

@@ -1,7 +1,7 @@
 -- Demand 3 over calls as they go: each step has what was handed in, what the buffers held before and after, and the
 -- answer, related by what the function promises. Crate statements has the same of lists of asks and lengths.
 use Rattle.std.specs.Prelude.{◌≡◌, ◌↔◌, ◌⊎◌, List, [], ◌∷◌, ℕ, ◌≤◌, eqb, length, take}
-use Rattle.promises.specs.declared.Answer.{Answer}
+use Rattle.promises.specs.Answers.{Answer}
 use Rattle.statements.specs.Sets.{pick}
 use Rattle.statements.specs.Plants.{plant_of}
 use Rattle.statements.specs.Books.{book_long, made_book}

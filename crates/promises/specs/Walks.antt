@@ -1,9 +1,9 @@
 -- Taking moves straight from the calls: consult, and the call for all good moves, asked at one state after another, each
 -- by its own contract, and what that comes to, after some steps and for ever.
 use Rattle.std.specs.Prelude.{◌≡◌, ◌⊎◌, true, false, List, ℕ, zero, suc, ◌+◌, ◌≤◌, ◌<◌, take}
-use Rattle.promises.specs.declared.Advice.{Advice}
-use Rattle.promises.specs.declared.Answer.{Answer}
-use Rattle.promises.specs.declared.Mask.{Mask}
+use Rattle.promises.specs.Answers.{Advice}
+use Rattle.promises.specs.Answers.{Answer}
+use Rattle.promises.specs.Answers.{Mask}
 use Rattle.statements.specs.Sets.{bit, lowest, is_in}
 use Rattle.statements.specs.Plants.{plant_of, ends, available}
 use Rattle.statements.specs.Books.{book_mask, stage_at, is_lost, goal_after, passes}

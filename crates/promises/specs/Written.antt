@@ -1,7 +1,7 @@
 -- Demand 2 of the bytes that a call wrote: the first of its book buffer, as many as the length that it returned.
 use Rattle.std.specs.Prelude.{◌≡◌, List, ℕ, take}
 use Rattle.std.specs.Int.Bits.{bit_or}
-use Rattle.promises.specs.declared.Answer.{Answer}
+use Rattle.promises.specs.Answers.{Answer}
 use Rattle.statements.specs.Plants.{plant_of}
 use Rattle.statements.specs.Books.{book_mask, less_mask, masks_of, union_of}
 use Rattle.statements.specs.Demands.{Allowed, KeptBefore, Right}

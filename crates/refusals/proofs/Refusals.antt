@@ -7,17 +7,26 @@ use Prim.Native.Nat.{ℕ, zero, suc, ◌+◌, ◌*◌, ◌<◌}
 use lib.Dec.{eqb, leb}
 use lib.ListN.{length, get_or}
 use borrow.Author.Tests.{eqb-true, eq-eqb}
+use Rattle.refusal.specs.declared.Refusal.{Refusal}
+use Rattle.refusal.specs.Numbers.{number_of}
+use Rattle.refusal.proofs.Refused.{some_refusal}
 use Rattle.statements.specs.Plants.{word, Plant, first_of, when, plant_of, head_ok, plant_fault}
 use Rattle.statements.specs.Books.{mask_ok, book_head_ok, rows_ok, book_fault, masks_of, union_of}
 use Rattle.statements.specs.Calls.{mask_fault, whole_masks, masks_fault, book_room, room_fault, make_fault, alike, lent_fault}
 use Rattle.statements.specs.Calls.{withdraw_fault, withdraw_list_fault, by_index, indexing_fault, told_of}
-use Rattle.statements.specs.Index.{index_long, index_fault}
+use Rattle.statements.specs.Index.{index_long, index_fault, index_bytes, same_bytes}
 use Rattle.sets.proofs.Tests.{decided, same_test, and_true, and_iff}
 use Rattle.decoding.proofs.Faults.{first_iff, when_iff, first_given, first_passed, list_as, make_told}
 use Rattle.decoding.proofs.Order.{arrows_length}
 use Rattle.rows.proofs.Faults.{fault_4, fault_5, no_book_fault}
 use Rattle.index.specs.Checked.{ascends}
-use Rattle.index.proofs.Exact.{index_exactly}
+
+-- of two checks the first stands where it refuses, and otherwise the second
+pub first_err : (why : Refusal) {a : ℕ} (b : ℕ) → number_of why ≡ a → number_of why ≡ first_of a b
+first_err why b f = f ∙ sym (first_given _ b (λ z. some_refusal why (f ∙ z)))
+
+pub first_ok : {a n : ℕ} (b : ℕ) → 0 ≡ a → n ≡ b → n ≡ first_of a b
+first_ok b none e = e ∙ sym (first_passed _ b (sym none))
 
 -- once what is lent is accepted: 6 for a bad mask, and for a good one 7 or 0 by the room
 module _ (p : Plant) (mask : ℕ) (room : Bool) where
@@ -123,13 +132,11 @@ indexing_exactly s room =
     and_true (eq-eqb _ _ z.0) ((when_iff fits 6).0 z.1))
 
 -- for an index that is lent, the plant being accepted, 10 is returned where the check of it fails, which is exact
-pub lent_10 : (s index : List ℕ) {passed : Bool} → plant_fault s ≡ 0 → ((k : ℕ) → get_or index k 0 < 256)
-    → passed ≡ (head_ok s && ascends (plant_of s) index)
+pub lent_10 : (s index : List ℕ) {passed : Bool} → plant_fault s ≡ 0
+    → passed ≡ same_bytes index (index_bytes (plant_of s))
     → first_of (plant_fault s) (index_fault (plant_of s) index) ≡ when (not passed) 10
 unfolding index_fault
-lent_10 s index fine bytes e =
-    first_passed (plant_fault s) _ fine
-    ∙ ap (λ (t : Bool). when (not t) 10) (sym (index_exactly s fine index bytes) ∙ sym e)
+lent_10 s index fine e = first_passed (plant_fault s) _ fine ∙ ap (λ (t : Bool). when (not t) 10) (sym e)
 
 -- a call by an index returns the answer for plant and index, and that of the plain call if there is none
 first_first : (a b c : ℕ) → first_of a (first_of b c) ≡ first_of (first_of a b) c

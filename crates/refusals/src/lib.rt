@@ -1,7 +1,8 @@
-// The numbers that the calls return: that of the first check that fails, or 0 when the call is accepted.
+// Why a call is refused: by the first check that fails. What is said of it is its number, 0 for an accepted call.
 #![tactic(auto)]
 
 ghost use Rattle.std.specs.Prelude.{◌≡◌};
+ghost use Rattle.refusal.specs.Numbers.{fault_of};
 ghost use Rattle.statements.specs.Plants.{first_of, plant_of, plant_fault};
 ghost use Rattle.statements.specs.Index.{index_fault};
 ghost use Rattle.statements.specs.Calls.{mask_fault, whole_masks, book_room, drop_room, room_fault, make_fault, alike};
@@ -9,11 +10,12 @@ ghost use Rattle.statements.specs.Calls.{lent_fault, withdraw_fault, withdraw_li
 ghost use Rattle.statements.specs.Calls.{moves_fault, by_index, indexing_fault};
 ghost use Rattle.refusals.specs.Ahead.{make_ahead, withdraw_ahead, list_ahead};
 
+use format::check_plant;
 use format::plant::{book_long, head_ok};
-use format::plant_fault;
 use format::word::{mask_ok, number, union};
 use index::is_index;
-use rows::book_fault;
+use refusal::Refusal;
+use rows::check_book;
 
 // A book buffer is long enough for a plant's book.
 fn book_room(plant: &[u8], room: usize) -> bool
@@ -23,62 +25,49 @@ fn book_room(plant: &[u8], room: usize) -> bool
 }
 
 // What make returns for a book buffer's length: 1, 2, 3, 6, 7, or 0 when it is accepted.
-pub fn make(plant: &[u8], mask: u32, room: usize) -> u8
-    ensures { result ≡ make_fault plant.now mask room }
+pub fn make(plant: &[u8], mask: u32, room: usize) -> Result<(), Refusal>
+    ensures { fault_of result ≡ make_fault plant.now mask room }
 {
-    let fault = plant_fault(plant);
-    if fault != 0 {
-        return fault;
-    }
+    check_plant(plant)?;
     if !mask_ok(number(plant, 1) as u32, mask) {
-        return 6;
+        return Err(Refusal::Mask);
     }
     if !book_room(plant, room) {
-        return 7;
+        return Err(Refusal::Room);
     }
-    0
+    Ok(())
 }
 
 // What the call that builds an index returns for a buffer's length: 1, 2, 3, 7, or 0 when it is accepted.
-pub fn indexing(plant: &[u8], room: usize) -> u8
-    ensures { result ≡ indexing_fault plant.now room }
+pub fn indexing(plant: &[u8], room: usize) -> Result<(), Refusal>
+    ensures { fault_of result ≡ indexing_fault plant.now room }
 {
-    let fault = plant_fault(plant);
-    if fault != 0 {
-        return fault;
-    }
+    check_plant(plant)?;
     if !(8 + 2 * (number(plant, 3) as usize) <= room) {
-        return 7;
+        return Err(Refusal::Room);
     }
-    0
+    Ok(())
 }
 
 // What a call that is lent a plant and an index returns for these: 1, 2, 3, 10, or 0 when they are accepted.
-fn lent_index(plant: &[u8], index: &[u8]) -> u8
-    ensures { result ≡ first_of (plant_fault plant.now)
+fn lent_index(plant: &[u8], index: &[u8]) -> Result<(), Refusal>
+    ensures { fault_of result ≡ first_of (plant_fault plant.now)
         (index_fault (plant_of plant.now) index.now) }
 {
-    let fault = plant_fault(plant);
-    if fault != 0 {
-        return fault;
-    }
+    check_plant(plant)?;
     if !is_index(plant, index) {
-        return 10;
+        return Err(Refusal::Index);
     }
-    0
+    Ok(())
 }
 
 // What make by an index returns: 1, 2, 3, 10, 6, 7, or 0 when it is accepted.
 #[tactic(auto, using(crate::proofs::Refusals::by_given, crate::proofs::Refusals::by_passed))]
-pub fn make_by(plant: &[u8], index: &[u8], mask: u32, room: usize) -> u8
-    ensures { result ≡ by_index plant.now index.now
+pub fn make_by(plant: &[u8], index: &[u8], mask: u32, room: usize) -> Result<(), Refusal>
+    ensures { fault_of result ≡ by_index plant.now index.now
         (make_fault plant.now mask room) }
 {
-    let wrong = lent_index(plant, index);
-    if wrong != 0 {
-        return wrong;
-    }
-    make(plant, mask, room)
+    lent_index(plant, index).and_then(|()| make(plant, mask, room))
 }
 
 // Make passes the checks ahead of loading: all but those of the plant's labels and arrows.
@@ -99,18 +88,14 @@ fn alike(plant: &[u8], book: &[u8]) -> bool
 }
 
 // What a call that is lent a plant and a book returns for these: 1 to 5, or 0 when they are accepted.
-fn lent(plant: &[u8], book: &[u8]) -> u8
-    ensures { result ≡ lent_fault plant.now book.now }
+fn lent(plant: &[u8], book: &[u8]) -> Result<(), Refusal>
+    ensures { fault_of result ≡ lent_fault plant.now book.now }
 {
-    let fault = plant_fault(plant);
-    if fault != 0 {
-        return fault;
+    check_plant(plant)?;
+    if !(rows::head_ok(book) & alike(plant, book)) {
+        return Err(Refusal::Book);
     }
-    let wrong = book_fault(book);
-    if (wrong == 4) | !alike(plant, book) {
-        return 4;
-    }
-    wrong
+    check_book(book)
 }
 
 // A drop buffer is long enough for every state of a plant.
@@ -121,27 +106,30 @@ fn drop_room(plant: &[u8], drops: usize) -> bool
 }
 
 // What a withdrawal of moves returns for these and for the lengths of a book buffer and a drop buffer: 6, 7, or 0.
-fn given(plant: &[u8], gone: u32, room: usize, drops: usize) -> u8
-    ensures { result ≡ first_of (mask_fault (plant_of plant.now) gone)
+fn given(plant: &[u8], gone: u32, room: usize, drops: usize) -> Result<(), Refusal>
+    ensures { fault_of result ≡ first_of (mask_fault (plant_of plant.now) gone)
         (room_fault (plant_of plant.now) room drops) }
 {
     if !mask_ok(number(plant, 1) as u32, gone) {
-        return 6;
+        return Err(Refusal::Mask);
     }
     if !(book_room(plant, room) & drop_room(plant, drops)) {
-        return 7;
+        return Err(Refusal::Room);
     }
-    0
+    Ok(())
 }
 
 // What withdraw returns: 1 to 7, or 0 when it is accepted.
-pub fn withdraw(plant: &[u8], book: &[u8], gone: u32, room: usize, drops: usize) -> u8
-    ensures { result ≡ withdraw_fault plant.now book.now gone room drops }
+pub fn withdraw(
+    plant: &[u8],
+    book: &[u8],
+    gone: u32,
+    room: usize,
+    drops: usize,
+) -> Result<(), Refusal>
+    ensures { fault_of result ≡ withdraw_fault plant.now book.now gone room drops }
 {
-    let fault = lent(plant, book);
-    if fault != 0 {
-        return fault;
-    }
+    lent(plant, book)?;
     given(plant, gone, room, drops)
 }
 
@@ -154,14 +142,11 @@ pub fn withdraw_by(
     gone: u32,
     room: usize,
     drops: usize,
-) -> u8
-    ensures { result ≡ by_index plant.now index.now
+) -> Result<(), Refusal>
+    ensures { fault_of result ≡ by_index plant.now index.now
         (withdraw_fault plant.now book.now gone room drops) }
 {
-    let bad = lent_index(plant, index);
-    if bad != 0 {
-        return bad;
-    }
+    lent_index(plant, index)?;
     withdraw(plant, book, gone, room, drops)
 }
 
@@ -172,7 +157,7 @@ pub fn withdraw_ahead(plant: &[u8], book: &[u8], gone: u32, room: usize, drops: 
     if !(make_ahead(plant, gone, room) & drop_room(plant, drops)) {
         return false;
     }
-    alike(plant, book) & (book_fault(book) == 0)
+    alike(plant, book) & check_book(book).is_ok()
 }
 
 // The bytes of up to 16 masks, none of them cut.
@@ -184,16 +169,19 @@ fn whole_masks(masks: &[u8]) -> bool
 
 // What a list of withdrawals returns: 1 to 5, 9, 6, 7, or 0 when it is accepted. One of its masks has a bit at U or
 // above just when all of them joined have one.
-pub fn withdraw_list(plant: &[u8], book: &[u8], masks: &[u8], room: usize, drops: usize) -> u8
-    ensures { result
+pub fn withdraw_list(
+    plant: &[u8],
+    book: &[u8],
+    masks: &[u8],
+    room: usize,
+    drops: usize,
+) -> Result<(), Refusal>
+    ensures { fault_of result
         ≡ withdraw_list_fault plant.now book.now masks.now room drops }
 {
-    let fault = lent(plant, book);
-    if fault != 0 {
-        return fault;
-    }
+    lent(plant, book)?;
     if !whole_masks(masks) {
-        return 9;
+        return Err(Refusal::Masks);
     }
     given(plant, union(masks), room, drops)
 }
@@ -212,35 +200,29 @@ pub fn withdraw_list_ahead(
 }
 
 // What a call on a book returns for a state and a goal: 8, or 0.
-fn asked(book: &[u8], state: u32, goal: u32) -> u8
-    ensures { result ≡ number_fault book.now state goal }
+fn asked(book: &[u8], state: u32, goal: u32) -> Result<(), Refusal>
+    ensures { fault_of result ≡ number_fault book.now state goal }
 {
     let states = number(book, 0) as u32;
     let goals = number(book, 2) as u32;
     if (states <= state) | (goals <= goal) {
-        return 8;
+        return Err(Refusal::Number);
     }
-    0
+    Ok(())
 }
 
 // What consult returns: 4, 5, 8, or 0 when it is accepted.
-pub fn consult(book: &[u8], state: u32, goal: u32) -> u8
-    ensures { result ≡ consult_fault book.now state goal }
+pub fn consult(book: &[u8], state: u32, goal: u32) -> Result<(), Refusal>
+    ensures { fault_of result ≡ consult_fault book.now state goal }
 {
-    let fault = book_fault(book);
-    if fault != 0 {
-        return fault;
-    }
+    check_book(book)?;
     asked(book, state, goal)
 }
 
 // What the call for all good moves returns: 1 to 5, 8, or 0 when it is accepted.
-pub fn moves(plant: &[u8], book: &[u8], state: u32, goal: u32) -> u8
-    ensures { result ≡ moves_fault plant.now book.now state goal }
+pub fn moves(plant: &[u8], book: &[u8], state: u32, goal: u32) -> Result<(), Refusal>
+    ensures { fault_of result ≡ moves_fault plant.now book.now state goal }
 {
-    let fault = lent(plant, book);
-    if fault != 0 {
-        return fault;
-    }
+    lent(plant, book)?;
     asked(book, state, goal)
 }

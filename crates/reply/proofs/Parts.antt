@@ -4,8 +4,8 @@ use mathlib.Core.Path.{◌≡◌, refl, sym, ap, ◌∙◌}
 use mathlib.Core.Logic.{inl, inr}
 use mathlib.Core.Bool.{true, false, ◌&&◌}
 use mathlib.Core.List.{List, [], ◌∷◌}
-use Prim.Native.Nat.{ℕ, zero, suc, ◌-◌, ◌≤◌, ◌<◌}
-use native.Mathlib.Nat.{le_refl}
+use Prim.Native.Nat.{ℕ, zero, suc, ◌-◌, ◌≤◌, min}
+use native.Mathlib.Decide.{dec_lt}
 use native.Mathlib.Omega.{arith}
 use lib.ListN.{length, take, drop}
 use lib.Seq.{take_all}
@@ -35,23 +35,23 @@ drop_all zero (x ∷ xs) h = absurd (omega arith)
 drop_all (suc n) [] h = refl
 drop_all (suc n) (x ∷ xs) h = drop_all n xs (omega arith)
 
--- the input is cut: all of it is the plant's
-pub parted_cut : (input : List ℕ) (total : ℕ) → total ≡ word 6 input → length input < total
-    → Parted input (length input)
+-- the plant ends where its header says, or with the input
+pub parted : (input : List ℕ) (total end : ℕ) → total ≡ word 6 input → end ≡ min total (length input) → Parted input end
 unfolding plant_part mask_part
-parted_cut input total e h =
-    let short : length input ≤ word 6 input = omega arith in
-    record {
-      within = le_refl (length input);
-      plant = take_all (length input) input (le_refl (length input)) ∙ sym (take_all (word 6 input) input short);
-      masks = drop_all (length input) input (le_refl (length input)) ∙ sym (drop_all (word 6 input) input short);
-    }
-
--- it is not: the plant ends where its header says
-pub parted_whole : (input : List ℕ) (total : ℕ) → total ≡ word 6 input → total ≤ length input → Parted input total
-unfolding plant_part mask_part
-parted_whole input total e h =
-    record { within = h; plant = ap (λ (n : ℕ). take n input) e; masks = ap (λ (n : ℕ). drop n input) e }
+parted input total end e h =
+    elim (dec_lt (length input) total) [
+      | no within ↦
+          let same : end ≡ word 6 input = omega arith in
+          record { within = omega arith; plant = ap (λ (n : ℕ). take n input) same; masks = ap (λ (n : ℕ). drop n input) same }
+      | yes cut ↦
+          let all : end ≡ length input = omega arith in
+          let short : length input ≤ word 6 input = omega arith in
+          record {
+            within = omega arith;
+            plant = take_all end input (omega arith) ∙ sym (take_all (word 6 input) input short);
+            masks = drop_all end input (omega arith) ∙ sym (drop_all (word 6 input) input short);
+          }
+    ]
 
 -- the answer, case by case
 module _ (input : List ℕ) where

@@ -21,7 +21,7 @@ use Rattle.decoding.proofs.Faults.{first_given, plant_ok, make_told}
 use Rattle.demands.proofs.Afresh.{in_turn_afresh}
 use Rattle.demands.proofs.InTurn.{first_mask}
 use Rattle.format.proofs.Unions.{rest_is, union_is}
-use Rattle.promises.specs.declared.Answer.{Answer}
+use Rattle.promises.specs.Answers.{Answer}
 use Rattle.promises.specs.Says.{MakeSays}
 use Rattle.reply.specs.Reply.{masks_ok, other_masks, in_turn}
 use Rattle.reply.specs.Steps.{Ready, outcome_of, came_to}

@@ -2,14 +2,13 @@
 -- and the set of the moves is within the mask just when each is in it. Assumes nothing.
 use mathlib.Core.Path.{◌≡◌, sym, ap, ◌∙◌}
 use mathlib.Core.Logic.{inl, inr}
-use mathlib.Core.Bool.{Bool, true, ◌&&◌, and_assoc}
-use mathlib.Core.Bool.{and-true as and_yes}
+use mathlib.Core.Bool.{Bool, true, ◌&&◌}
 use mathlib.Core.List.{List}
-use Prim.Native.Nat.{ℕ, ◌+◌, ◌-◌, ◌*◌, ◌%◌, ◌^◌, ◌≤◌, ◌<◌}
+use Prim.Native.Nat.{ℕ, ◌+◌, ◌%◌, ◌^◌, ◌<◌}
 use native.Mathlib.Omega.{arith}
 use native.Mathlib.Nat.{mod-eq_of_lt}
 use lib.Dec.{eqb, ltb, leb}
-use lib.ListN.{length, drop}
+use lib.ListN.{drop}
 use lib.Bits.{bit_or, or_zero_l, or_lt, or_add_and, and_le_l, and_le_r}
 use borrow.Author.Tests.{leb-true, le-leb, eqb-true, eq-eqb, ltb-true, ltb-false}
 use Rattle.statements.specs.Sets.{bit, every}
@@ -20,7 +19,7 @@ use Rattle.sets.proofs.Tests.{or_left, or_right, or_cases, same_test}
 use Rattle.sets.proofs.Bits.{all_bits, or_bit, one_bit}
 use Rattle.format.proofs.Words.{no_bit, word_further}
 use Rattle.rows.specs.Checks.{held_at}
-use Rattle.rows.proofs.Loops.{every_start, every_turn, every_end}
+use Rattle.sets.proofs.Numbers.{every_more}
 
 -- both of two numbers are below a power of 2 when they are joined
 low_both : (k a b : ℕ) → bit_or a b < 2 ^ k → (a < 2 ^ k) × (b < 2 ^ k)
@@ -43,7 +42,7 @@ within_set set mask h =
 
 -- what the numbers joined say of the entries passed
 unfoldable pub gathered : ℕ → ℕ → ℕ → ℕ → Bool
-gathered mask waits moves set = leb waits 1023 && (leb moves 31 && eqb (bit_or set mask) mask)
+gathered mask waits moves set = leb waits 1023 && leb moves 31 && eqb (bit_or set mask) mask
 
 pub record Gathered (mask waits moves set : ℕ) : Type 0 where
   pub waits_low : waits < 2 ^ 10
@@ -57,14 +56,15 @@ told {mask} {waits} {moves} {set} h =
     record {
       waits_low = omega (arith, leb-true);
       moves_low = omega (arith, leb-true);
-      in_mask = eqb-true _ _ tests.1.1;
+      in_mask = eqb-true _ _ tests.1;
     }
 
 tell : {mask waits moves set : ℕ} → Gathered mask waits moves set → gathered mask waits moves set ≡ true
 unfolding gathered
 tell {mask} {waits} {moves} {set} g =
-    and_true (le-leb waits 1023 (omega (arith, g.waits_low)))
-    (and_true (le-leb moves 31 (omega (arith, g.moves_low))) (eq-eqb (bit_or set mask) mask g.in_mask))
+    and_true
+    (and_true (le-leb waits 1023 (omega (arith, g.waits_low))) (le-leb moves 31 (omega (arith, g.moves_low))))
+    (eq-eqb (bit_or set mask) mask g.in_mask)
 
 -- before the first entry
 pub gathered_none : (mask : ℕ) → gathered mask 0 0 0 ≡ true
@@ -149,60 +149,17 @@ entry_held b u mask at wait move ok ew em =
           | inr e ↦ absurd (not_both on (no_bit u move mask (ltb-true mask (2 ^ u) ok) (ltb-false move u e)))
         ]
 
--- a loop over a row's entries: goal i is next, and what is gathered and the entries from there on stand for the row
-pub record EntriesLeft (b : List ℕ) (u mask n start : ℕ) (whole : Bool) (at i waits moves set : ℕ) : Type 0 where
-  pub within : i ≤ n
-  pub room : start + 4 * n ≤ length b
-  pub few : mask < 2 ^ 32
-  pub ok : mask_ok u mask ≡ true
-  pub place : at ≡ start + 4 * i
-  pub left : whole ≡ (gathered mask waits moves set && every (n - i) i (λ k. held_at b u mask (start + 4 * k)))
-
--- before the first entry
-pub entries_start : {b : List ℕ} {u mask n start at : ℕ} {whole : Bool}
-    → start + 4 * n ≤ length b → mask < 2 ^ 32 → mask_ok u mask ≡ true → at ≡ start
-    → whole ≡ every n 0 (λ k. held_at b u mask (start + 4 * k))
-    → EntriesLeft b u mask n start whole at 0 0 0 0
-entries_start {b} {u} {mask} {n} {start} room few ok place all =
-    record {
-      within = omega arith;
-      room = room;
-      few = few;
-      ok = ok;
-      place = omega (arith, place);
-      left = rw (gathered_none mask) (all ∙ every_start (λ k. held_at b u mask (start + 4 * k)) n);
-    }
-
-module _ {b : List ℕ} {u mask n start : ℕ} {whole : Bool} {at i waits moves set : ℕ}
-    (r : EntriesLeft b u mask n start whole at i waits moves set) where
-  -- one more is read and joined
-  pub entries_more : {wait move one : ℕ} → i < n → wait ≡ word 0 (drop at b) → move ≡ word 0 (drop (at + 2) b)
-      → one ≡ 2 ^ (move % 32)
-      → EntriesLeft b u mask n start whole (at + 4) (i + 1) (bit_or waits wait) (bit_or moves move) (bit_or set one)
-  entries_more {wait} {move} {one} h ew em eo =
-      let test : ℕ → Bool = λ k. held_at b u mask (start + 4 * k) in
-      let rest = every (n - (i + 1)) (i + 1) test in
-      let here : test i ≡ (leb wait 1023 && bit move mask) =
-      ap (held_at b u mask) (sym r.place) ∙ entry_held b u mask at wait move r.ok ew em in
-      record {
-        within = omega arith;
-        room = r.room;
-        few = r.few;
-        ok = r.ok;
-        place = omega (arith, r.place);
-        left =
-            r.left
-            ∙ ap (λ (t : Bool). gathered mask waits moves set && t)
-            (every_turn test n i h ∙ ap (λ (t : Bool). t && rest) here)
-            ∙ sym (and_assoc (gathered mask waits moves set) (leb wait 1023 && bit move mask) rest)
-            ∙ ap (λ (t : Bool). t && rest) (sym (gathered_more mask waits moves set wait move r.few))
-            ∙ ap (λ (k : ℕ). gathered mask (bit_or waits wait) (bit_or moves move) (bit_or set k) && rest) (sym eo);
-      }
-
-  -- none is left
-  pub entries_end : n ≤ i → gathered mask waits moves set ≡ whole
-  entries_end h =
-      sym
-      (r.left
-      ∙ ap (λ (t : Bool). gathered mask waits moves set && t) (every_end (λ k. held_at b u mask (start + 4 * k)) n i h)
-      ∙ and_yes (gathered mask waits moves set))
+-- one more entry is read and joined: what is gathered tells whether the entries so far are held
+pub gathered_next : (b : List ℕ) (u mask i waits moves set : ℕ) {wait move one at : ℕ} (place : ℕ → ℕ)
+    → mask < 2 ^ 32 → mask_ok u mask ≡ true
+    → gathered mask waits moves set ≡ every i 0 (λ k. held_at b u mask (place k)) → at ≡ place i
+    → wait ≡ word 0 (drop at b) → move ≡ word 0 (drop (at + 2) b) → one ≡ 2 ^ (move % 32)
+    → gathered mask (bit_or waits wait) (bit_or moves move) (bit_or set one)
+    ≡ every (i + 1) 0 (λ k. held_at b u mask (place k))
+gathered_next b u mask i waits moves set {wait} {move} {one} {at} place few ok so e ew em eo =
+    let test : ℕ → Bool = λ k. held_at b u mask (place k) in
+    ap (λ (k : ℕ). gathered mask (bit_or waits wait) (bit_or moves move) (bit_or set k)) eo
+    ∙ gathered_more mask waits moves set wait move few
+    ∙ ap (λ (t : Bool). t && (leb wait 1023 && bit move mask)) so
+    ∙ ap (λ (t : Bool). every i 0 test && t) (sym (ap (held_at b u mask) (sym e) ∙ entry_held b u mask at wait move ok ew em))
+    ∙ sym (every_more test i)

@@ -1,13 +1,13 @@
 -- Laws of `every`: a test that holds at each number of a range holds at any one of them, and the other way round.
 -- Assumes nothing.
 use mathlib.Core.Path.{◌≡◌, refl}
-use mathlib.Core.Bool.{Bool, true, false}
+use mathlib.Core.Bool.{Bool, true, false, ◌&&◌}
 use Prim.Native.Nat.{ℕ, zero, suc, ◌+◌, ◌≤◌, ◌<◌}
 use native.Mathlib.Omega.{arith}
-use mathlib.Core.Logic.{inl, inr}
+use mathlib.Core.Logic.{inl, inr, ⊎_elim}
 use native.Mathlib.Nat.{eq-or-lt_of_le}
 use Rattle.statements.specs.Sets.{every}
-use Rattle.sets.proofs.Tests.{decided, not_both, and_true, and_left, and_right}
+use Rattle.sets.proofs.Tests.{decided, same_number, not_both, and_true, and_left, and_right, same_test}
 
 pub every_at : (n x : ℕ) (test : ℕ → Bool) → every n x test ≡ true → (k : ℕ) → x ≤ k → k < x + n → test k ≡ true
 unfolding every
@@ -32,3 +32,16 @@ every_none n x test k low high f =
       | inl e ↦ absurd (not_both (every_at n x test e k low high) f)
       | inr e ↦ e
     ]
+
+-- a test of the numbers below n + 1 is one of those below n, and of n
+pub every_more : (f : ℕ → Bool) (n : ℕ) → every (n + 1) 0 f ≡ (every n 0 f && f n)
+every_more f n =
+    same_test (every (n + 1) 0 f) (every n 0 f && f n)
+    (λ h.
+    and_true (every_all n 0 f (λ k l m. every_at (n + 1) 0 f h k (omega arith) (omega arith)))
+    (every_at (n + 1) 0 f h n (omega arith) (omega arith)))
+    (λ h. every_all (n + 1) 0 f (λ k l m.
+    ⊎_elim
+    (λ e. rw e (and_right (every n 0 f) (f n) h))
+    (λ d. every_at n 0 f (and_left (every n 0 f) (f n) h) k (omega arith) (omega arith))
+    (same_number k n)))

@@ -7,12 +7,14 @@ use Prim.Native.Nat.{ℕ, ◌+◌, ◌*◌, ◌≤◌, ◌<◌}
 use native.Mathlib.Omega.{arith}
 use lib.Dec.{eqb, ltb, leb}
 use lib.ListN.{length, get_or, drop_of_length-le}
-use borrow.Author.Tests.{eqb-true, eq-eqb, ne_eqb, le-leb, lt-leb, ltb-true, ltb-false}
+use borrow.Author.Tests.{eqb-true, eq-eqb, ne_eqb, le-leb, lt-leb, ltb-true, ltb-false, not-false}
+use Rattle.std.specs.Prelude.{Some, None}
 use Rattle.statements.specs.Sets.{pick, is_in}
-use Rattle.statements.specs.Plants.{Plant, plant_of, head_ok, plant_fault}
+use Rattle.statements.specs.Plants.{Plant, plant_of, plant_fault}
+use Rattle.statements.specs.Index.{index_bytes, same_bytes}
 use Rattle.statements.specs.Kept.{kept_within}
 use Rattle.statements.specs.Books.{book_long}
-use Rattle.sets.proofs.Tests.{decided, and_true, and_left, and_none}
+use Rattle.sets.proofs.Tests.{decided, and_true, and_left, and_none, or_neither}
 use Rattle.sets.proofs.Members.{is_in_here, is_in_none}
 use Rattle.sets.proofs.Iterate.{sifted_few}
 use Rattle.kept.proofs.Kept.{kept_sifted, kept_within_lem}
@@ -21,10 +23,8 @@ use Rattle.arrays.specs.Lists.{among, rising}
 use Rattle.layout.specs.Layout.{table_room}
 use Rattle.game.specs.Packed.{places_in}
 use Rattle.graph.specs.Packed.{lent, accepts, roomy_pack}
-use Rattle.index.specs.Checked.{ascends}
-use Rattle.index.proofs.Exact.{index_exactly}
 use Rattle.solve.specs.Graphed.{Wide}
-use Rattle.solve.specs.Rows.{row_size, rows_long, Rowed, rows_over, solvable, solved_count, solved_rows}
+use Rattle.solve.specs.Rows.{row_size, rows_long, Rowed, rows_over, solvable, solved_kept, solved_rows}
 use Rattle.solve.proofs.RowMarks.{rows_bytes}
 
 -- how many bytes a book has: those of the header and of the rows
@@ -53,23 +53,23 @@ neither false b = refl
 module _ (good : Bool) (s : List ℕ) (mask : ℕ) (start out : List ℕ) where
   -- it cannot work: the mark, and the bytes stay
   pub not_solved : solvable good s start out ≡ false
-      → (65535 ≡ solved_count good s mask start out) × (out ≡ solved_rows good s mask start out)
-  unfolding solved_count solved_rows
+      → (None ≡ solved_kept good s mask start out) × (out ≡ solved_rows good s mask start out)
+  unfolding solved_kept solved_rows
   not_solved e = (rw e, rw e)
 
   -- it works: the number of kept states, and their rows
   pub solved : solvable good s start out ≡ true
       → let kept = kept_within (plant_of s) mask (among start) in
-      (length kept ≡ solved_count good s mask start out) × (rows_over (plant_of s) mask kept out ≡ solved_rows good s mask start out)
-  unfolding solved_count solved_rows
+      (Some (length kept) ≡ solved_kept good s mask start out) × (rows_over (plant_of s) mask kept out ≡ solved_rows good s mask start out)
+  unfolding solved_kept solved_rows
   solved e = (rw e, rw e)
 
   -- the rows are worked out: what the solver answers
   pub done_solved : {r : ℕ} {new : List ℕ} → solvable good s start out ≡ true
       → r ≡ length (kept_within (plant_of s) mask (among start))
       → new ≡ rows_over (plant_of s) mask (kept_within (plant_of s) mask (among start)) out
-      → (r ≡ solved_count good s mask start out) × (new ≡ solved_rows good s mask start out)
-  done_solved e number rows = let answer = solved e in (number ∙ answer.0, rows ∙ answer.1)
+      → (Some r ≡ solved_kept good s mask start out) × (new ≡ solved_rows good s mask start out)
+  done_solved e number rows = let answer = solved e in (ap Some number ∙ answer.0, rows ∙ answer.1)
 
 -- arrays of these lengths have room for a plant with few arrows
 pub wide_small : (p : Plant) → length p.arrows ≤ 2048 → Wide p 9218 6145
@@ -101,19 +101,18 @@ unfolding accepts
 accepts_fine indexed index s e = eqb-true (plant_fault s) 0 (and_left (eqb (plant_fault s) 0) _ e)
 
 -- by its parts
-module _ (indexed : Bool) (index s : List ℕ) where
-  pub accepts_not : (plant_fault s ≡ 0 → ⊥) → accepts indexed index s ≡ false
-  unfolding accepts
-  accepts_not bad = rw (ne_eqb (plant_fault s) 0 bad) refl
+pub accepts_not : (indexed : Bool) (index s : List ℕ) → (plant_fault s ≡ 0 → ⊥) → accepts indexed index s ≡ false
+unfolding accepts
+accepts_not indexed index s bad = rw (ne_eqb (plant_fault s) 0 bad) refl
 
-  pub accepts_plain : indexed ≡ false → plant_fault s ≡ 0 → accepts indexed index s ≡ true
+module _ (index s : List ℕ) (fine : plant_fault s ≡ 0) where
+  pub accepts_plain : accepts false index s ≡ true
   unfolding accepts lent
-  accepts_plain e fine = rw (e, eq-eqb (plant_fault s) 0 fine) refl
+  accepts_plain = rw (eq-eqb (plant_fault s) 0 fine) refl
 
-  pub accepts_by : indexed ≡ true → plant_fault s ≡ 0 → ((k : ℕ) → get_or index k 0 < 256)
-      → accepts indexed index s ≡ (head_ok s && ascends (plant_of s) index)
+  pub accepts_lent : accepts true index s ≡ same_bytes index (index_bytes (plant_of s))
   unfolding accepts lent
-  accepts_by e fine bytes = rw (e, eq-eqb (plant_fault s) 0 fine) (sym (index_exactly s fine index bytes))
+  accepts_lent = rw (eq-eqb (plant_fault s) 0 fine) refl
 
 -- where there is room for every accepted plant, the arrays are built just if what is lent is accepted
 pub built : (indexed : Bool) (index s table graph : List ℕ) {fits : Bool}
@@ -167,6 +166,15 @@ module _ (good : Bool) (s start out : List ℕ) (states long : ℕ) (es : states
   short_unsolvable e =
       room_solvable ∙ ap (λ (b : Bool). good && not b) e ∙ and_none good false refl
 
+  -- neither holds: the start rises, and there is room
+  pub fitting : not rises || ltb (length out) long ≡ false
+      → (rising 0 (plant_of s).states start ≡ true) × (16 + 2 * rows_long (plant_of s) ≤ length out)
+  fitting e =
+      let tests = or_neither (not rises) (ltb (length out) long) e in (
+        ap (λ (n : ℕ). rising 0 n start) (sym es) ∙ sym er ∙ not-false rises tests.0,
+        omega (arith, el, book_rows (plant_of s), ltb-false (length out) long tests.1),
+      )
+
 and_all : (a : Bool) → (a && true) ≡ a
 and_all true = refl
 and_all false = refl
@@ -182,14 +190,14 @@ fine_solvable good s start out rises room =
 -- no state to start from, and room for the rows
 module _ (good : Bool) (s : List ℕ) (mask : ℕ) (out : List ℕ) (room : 16 + 2 * rows_long (plant_of s) ≤ length out) where
   -- what is lent is refused
-  pub none_unsolved : good ≡ false → (65535 ≡ solved_count good s mask [] out) × (out ≡ solved_rows good s mask [] out)
+  pub none_unsolved : good ≡ false → (None ≡ solved_kept good s mask [] out) × (out ≡ solved_rows good s mask [] out)
   unfolding rising
   none_unsolved bad = not_solved good s mask [] out (fine_solvable good s [] out refl room ∙ bad)
 
   -- it is accepted: none is kept, and marks are all rows
   pub none_solved : {new : List ℕ} → good ≡ true → Rowed (plant_of s) mask [] [] out new
       → ((k : ℕ) → k < length new → get_or new k 0 < 256)
-      → (0 ≡ solved_count good s mask [] out) × (new ≡ solved_rows good s mask [] out)
+      → (Some 0 ≡ solved_kept good s mask [] out) × (new ≡ solved_rows good s mask [] out)
   unfolding rising
   none_solved fine rows small =
       let kept = none_kept (plant_of s) mask in

@@ -269,6 +269,18 @@ module _ (p : Plant) (mask : ℕ) where
                 ∙ drop-append_seam (ahead p mask the_ends x u) (ends p x u ++ all.0),
           )
 
+      -- which are some of all ends
+      pub group_ends_in : length (ahead p mask the_ends x u) + length (ends p x u) ≤ length (group_ends p mask)
+      unfolding group_ends
+      group_ends_in =
+          let all = own the_ends in
+          omega (
+            arith,
+            ap length all.1,
+            length-append (ahead p mask the_ends x u) (ends p x u ++ all.0),
+            length-append (ends p x u) all.0,
+          )
+
   -- a move that is not available has no group
   pub no_group : (x u : ℕ) → available p mask x u ≡ false
       → length (ahead p mask the_move x (suc u)) ≡ length (ahead p mask the_move x u)

@@ -16,7 +16,7 @@ use Rattle.decoding.proofs.Faults.{PlantOk, plant_ok}
 use Rattle.layout.specs.Layout.{table_room, group_states, group_ends, Front}
 use Rattle.game.specs.Packed.{places_in}
 use Rattle.graph.specs.Packed.{Packed}
-use Rattle.solve.specs.declared.rows.Frame.{Frame}
+use Rattle.solve.specs.declared.moves.Frame.{Frame}
 use Rattle.solve.specs.Reached.{goes}
 use Rattle.solve.specs.Given.{Given}
 use Rattle.solve.specs.Rows.{row_size, rows_long}

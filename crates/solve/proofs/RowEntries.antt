@@ -46,6 +46,11 @@ pub column_is : (p : Plant) (waits : List ℕ) (i : ℕ) {s : ℕ} → s ≡ p.s
 unfolding column_of
 column_is p waits i e = ap (λ (s : ℕ). take (i * s + s - i * s) (drop (i * s) waits)) e
 
+-- which stands in the columns
+pub column_in : (p : Plant) (waits : List ℕ) {s n : ℕ} → s ≡ p.states → n ≡ p.goals → p.goals * p.states ≤ length waits
+    → (i : ℕ) → i < n → i * s + s ≤ length waits
+column_in p waits es en room i h = rw es (omega (arith, row_within {s = p.goals} i p.states (omega arith), room))
+
 -- it has a wait for each state
 pub column_long : (waits : List ℕ) (i s : ℕ) → i * s + s ≤ length waits
     → length (take (i * s + s - i * s) (drop (i * s) waits)) ≡ s

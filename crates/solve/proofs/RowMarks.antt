@@ -3,52 +3,25 @@ use mathlib.Core.Path.{◌≡◌, refl, sym, ap, ap₂, ◌∙◌}
 use mathlib.Core.Logic.{⊎_elim}
 use mathlib.Core.Bool.{Bool, true, false}
 use mathlib.Core.List.{List, [], ◌∷◌, ◌++◌}
-use Prim.Native.Nat.{ℕ, zero, suc, ◌+◌, ◌*◌, ◌≤◌, ◌<◌}
+use Prim.Native.Nat.{ℕ, zero, suc, ◌+◌, ◌-◌, ◌*◌, ◌≤◌, ◌<◌}
 use native.Mathlib.Nat.{zero-add}
 use native.Mathlib.Omega.{arith}
-use lib.ListN.{length, get_or, take, drop, set, length-set, take-append-drop}
-use lib.Seq.{get_or-set_same, get_or-set_other, take-set-le, drop-set-lt, drop-drop}
+use lib.ListN.{length, get_or, take, drop, replicate, length-drop, take-append-drop}
+use lib.Seq.{drop-drop, length-take-le}
+use borrow.Rule.Slice.PartMut.{mid_of, post_of, put_mid, same_len_mid}
+use Rattle.std.proofs.lemmas.List.{get_or_append_left, get_or-append_right, get_or-replicate, length-replicate}
+use Rattle.std.proofs.lemmas.Slice.{take-put_mid_below, drop-put_mid}
 use Rattle.statements.specs.Sets.{pick, joined, is_in}
 use Rattle.statements.specs.Plants.{Plant}
 use Rattle.statements.specs.Kept.{stage_of}
 use Rattle.statements.specs.Books.{lost_mark, bytes_of}
-use Rattle.sets.proofs.Tests.{decided, same_number}
+use Rattle.sets.proofs.Tests.{decided}
 use Rattle.sets.proofs.Pieces.{joined_take}
 use Rattle.decoding.proofs.Sizes.{row_within}
 use Rattle.solve.specs.Rows.{entry_numbers, stage_numbers, one_row, row_numbers, row_size, rows_long, number_at}
 use Rattle.solve.specs.Rows.{Rowed, rows_over}
 use Rattle.solve.proofs.RowBytes.{bytes_joined, bytes_read}
 use Rattle.solve.proofs.RowEntries.{row_fits, row_long_lem}
-
--- marks stand from the header to a place
-pub record Blanked (old new : List ℕ) (at : ℕ) : Type 0 where
-  pub long : length new ≡ length old
-  pub past : 16 ≤ at
-  pub head : take 16 new ≡ take 16 old
-  pub marks : (k : ℕ) → 16 ≤ k → k < at → get_or new k 0 ≡ 255
-  pub rest : drop at new ≡ drop at old
-
--- none yet
-pub blank_none : (old : List ℕ) → Blanked old old 16
-blank_none old =
-    record { long = refl; past = omega arith; head = refl; marks = λ k l h. absurd (omega arith); rest = refl }
-
--- one byte more
-pub blank_next : {old new : List ℕ} {at : ℕ} → Blanked old new at → at < length old
-    → Blanked old (set new at 255) (at + 1)
-blank_next {old} {new} {at} b h =
-    record {
-      long = length-set new at 255 ∙ b.long;
-      past = omega (arith, b.past);
-      head = take-set-le 16 new at 255 b.past ∙ b.head;
-      marks = λ k l s.
-          ⊎_elim
-          (λ e. rw e (get_or-set_same new at 255 0 (omega (arith, b.long))))
-          (λ d. get_or-set_other new at k 255 0 d ∙ b.marks k l (omega arith))
-          (same_number k at);
-      rest = drop-set-lt (at + 1) new at 255 (omega arith) ∙ sym (drop-drop 1 at new) ∙ ap (drop 1) b.rest
-          ∙ drop-drop 1 at old;
-    }
 
 -- the numbers of a row stand among those of all rows
 number_in : (p : Plant) (x j : ℕ) → x < p.states → j < row_size p → x * row_size p + j < rows_long p
@@ -59,18 +32,32 @@ rows_total : (p : Plant) → 2 * rows_long p ≡ p.states * (2 * row_size p)
 unfolding rows_long
 rows_total p = omega arith
 
--- all of them
-pub blank_all : (p : Plant) (mask : ℕ) (kept : List ℕ) {old new : List ℕ} {at : ℕ} → Blanked old new at
-    → at ≡ 16 + 2 * rows_long p → Rowed p mask kept [] old new
+-- marks from the header to the end of the rows are written
+pub blank_all : (p : Plant) (mask : ℕ) (kept old : List ℕ) (n : ℕ) → n ≡ rows_long p → 16 + 2 * n ≤ length old
+    → {marks : List ℕ} → marks ≡ replicate (length (mid_of 16 (16 + 2 * n - 16) old)) 255
+    → Rowed p mask kept [] old (put_mid 16 (16 + 2 * n - 16) old marks)
 unfolding number_at is_in
-blank_all p mask kept {old} {new} {at} b e =
+blank_all p mask kept old n count room {marks} is =
+    let k = 16 + 2 * n - 16 in
+    let part = length (mid_of 16 k old) in
+    let whole : part ≡ k = length-take-le k (drop 16 old) (omega (arith, length-drop 16 old)) in
+    let many : length marks ≡ part = ap length is ∙ length-replicate part 255 in
+    let mark : (i : ℕ) → 16 ≤ i → i < 16 + 2 * n → get_or (put_mid 16 k old marks) i 0 ≡ 255 = λ i l h.
+    get_or-append_right (take 16 old) (marks ++ post_of 16 k old) 16 i 0 (length-take-le 16 old (omega arith)) l
+    ∙ get_or_append_left marks (post_of 16 k old) 0 (i - 16) (omega arith)
+    ∙ ap (λ (ys : List ℕ). get_or ys (i - 16) 0) is
+    ∙ get_or-replicate part (i - 16) 255 0 (omega arith) in
     record {
       row = λ x j h l.
           let m = x * row_size p + j in
           let inside = number_in p x j h l in
-          ap₂ (λ (u v : ℕ). u + 256 * v) (b.marks (16 + 2 * m) (omega arith) (omega arith))
-          (b.marks (16 + 2 * m + 1) (omega arith) (omega arith));
-      around = record { long = b.long; head = b.head; rest = rw (← e) b.rest };
+          ap₂ (λ (u v : ℕ). u + 256 * v) (mark (16 + 2 * m) (omega arith) (omega arith))
+          (mark (16 + 2 * m + 1) (omega arith) (omega arith));
+      around = record {
+        long = same_len_mid 16 k old marks many;
+        head = take-put_mid_below 16 k old marks 16 (omega arith) (omega arith);
+        rest = drop-put_mid 16 k old marks (16 + 2 * rows_long p) (omega arith) (omega arith) (many ∙ whole);
+      };
     }
 
 -- marks, two by two

@@ -1,23 +1,24 @@
 -- The search of a state's groups, turn by turn: what is left of the groups decides which move is found, and what is
 -- left of a group's ends decides whether its move goes into the set. Assumes nothing.
-use mathlib.Core.Path.{◌≡◌, refl, sym, ap, ◌∙◌}
+use mathlib.Core.Path.{◌≡◌, refl, sym, ap, ◌∙◌, subst}
 use mathlib.Core.Bool.{true, false}
 use mathlib.Core.List.{List, [], ◌∷◌, ◌++◌}
-use Prim.Native.Nat.{ℕ, suc, ◌+◌, ◌≤◌, ◌<◌}
+use Prim.Native.Nat.{ℕ, suc, ◌+◌, ◌-◌, ◌≤◌, ◌<◌}
 use native.Mathlib.Nat.{zero-add}
 use native.Mathlib.Numerals.{add-one}
 use native.Mathlib.Omega.{arith}
 use lib.Dec.{ltb}
-use lib.ListN.{length, get_or, drop, length-append, length-drop, drop_of_length-le}
-use lib.Seq.{drop-cons}
+use lib.ListN.{length, get_or, take, drop, length-append, length-take, length-drop, drop_of_length-le}
+use lib.Seq.{drop-cons, get_or-take, get_or-drop}
+use borrow.Author.Tests.{lt-ltb, le-ltb}
 use Rattle.statements.specs.Sets.{numbers, first, is_in, all_in}
-use Rattle.statements.specs.Plants.{Plant, ends, available, goes_into, move_into}
+use Rattle.statements.specs.Plants.{Plant, plant_of, ends, available, goes_into, move_into, can}
 use Rattle.sets.proofs.Members.{is_in_here, is_in_there, filter_test, numbers_in_lem}
 use Rattle.sets.proofs.First.{first_yes, first_no}
-use Rattle.decoding.proofs.Faults.{PlantOk, arrow_range}
+use Rattle.decoding.proofs.Faults.{PlantOk, plant_ok, arrow_range}
 use Rattle.layout.specs.Layout.{group_moves, group_ends, group_begins, first_groups}
 use Rattle.solve.specs.Tabled.{Tabled, moves_at, ends_at}
-use Rattle.solve.specs.Given.{below}
+use Rattle.solve.specs.Given.{Given, below}
 use Rattle.solve.proofs.Groups as groups
 use Rattle.solve.proofs.Groups.{the_move, ahead, front_at, front_in}
 use Rattle.solve.proofs.NextGroup.{groups_left, Group, into_yes, groups_none, groups_some}
@@ -34,6 +35,12 @@ pub record Sought (p : Plant) (mask : ℕ) (table waits : List ℕ) (x : ℕ) : 
   pub table_is : Tabled p mask table
   pub long : p.states ≤ length waits
   pub here : x < p.states
+
+-- what a search is given
+pub sought : {plant : List ℕ} {mask none x : ℕ} {table waits : List ℕ} → Given plant mask table none
+    → (plant_of plant).states ≤ length waits → x < (plant_of plant).states
+    → Sought (plant_of plant) mask table waits x
+sought {plant} g long here = record { ok = plant_ok plant g.accepted; table_is = g.table_is; long = long; here = here }
 
 -- at a group: the groups from there to the last are those of the moves left, one of which is the first into the set
 pub record Left (p : Plant) (mask : ℕ) (ys : List ℕ) (x last g : ℕ) : Type 0 where
@@ -55,6 +62,7 @@ pub record Ends (p : Plant) (mask : ℕ) (ys : List ℕ) (x last g stop at : ℕ
   pub here : g ≡ length (ahead p mask the_move x move)
   pub more : last ≡ suc (g + groups_left p mask x left (suc move))
   pub stop_is : stop ≡ at + length todo
+  pub inside : stop ≤ length (group_ends p mask)
   pub text : drop at (group_ends p mask) ≡ todo ++ rest
   pub into : goes_into p mask ys x move ≡ all_in todo ys
   pub same : move_into p mask ys x ≡ first (suc left) move (goes_into p mask ys x)
@@ -91,6 +99,10 @@ module _ {p : Plant} {mask : ℕ} {table waits : List ℕ} {x : ℕ} (q : Sought
       -- past the last group: there is no move
       pub left_none : last ≤ g → move_into p mask ys x ≡ p.moves
       left_none h = l.same ∙ groups_none p mask ys x l.left l.from (omega (arith, l.more)) ∙ l.all
+
+      pub left_cannot : last ≤ g → can p mask ys x ≡ false
+      unfolding can
+      left_cannot h = le-ltb (move_into p mask ys x) p.moves (omega (arith, left_none h))
 
       module _ (h : g < last) where
         -- otherwise there is a next group
@@ -138,6 +150,7 @@ module _ {p : Plant} {mask : ℕ} {table waits : List ℕ} {x : ℕ} (q : Sought
               here = sym group_here;
               more = omega (arith, l.more, m.more);
               stop_is = stop ∙ ap (λ (i : ℕ). i + length (ends p x u)) (sym begin);
+              inside = omega (arith, stop, groups.group_ends_in p mask x u m.is_available q.here group_below);
               text = rw begin behind.1;
               into = into_yes p mask ys x u m.is_available;
               same = l.same ∙ m.same;
@@ -162,15 +175,41 @@ module _ {p : Plant} {mask : ℕ} {table waits : List ℕ} {x : ℕ} (q : Sought
       pub ends_move_in : moves_at table + g < length table
       ends_move_in = front_in (moves_at table) (group_moves p mask) table q.table_is.moves_is g group_in
 
+      -- and so do its ends
+      pub ends_stop_in : ends_at table + stop ≤ length table
+      ends_stop_in =
+          omega (
+            arith,
+            d.inside,
+            q.table_is.long,
+            ap length q.table_is.ends_is,
+            length-take (length (group_ends p mask)) (drop (ends_at table) table),
+            length-drop (ends_at table) table,
+          )
+
       -- past the last end: the move goes into the set
-      pub ends_all : stop ≤ at → move_into p mask ys x ≡ get_or table (moves_at table + g) 0
+      ends_found : stop ≤ at → move_into p mask ys x ≡ d.move
       unfolding all_in
-      ends_all h =
+      ends_found h =
           let none : d.todo ≡ [] = drop_of_length-le d.todo {i = 0} (omega (arith, d.stop_is)) in
           let good : goes_into p mask ys x d.move ≡ true = d.into ∙ ap (λ (zs : List ℕ). all_in zs ys) none in
+          d.same ∙ first_yes d.left d.move (goes_into p mask ys x) good
+
+      -- it is the one that stands in the table
+      pub ends_all : stop ≤ at → move_into p mask ys x ≡ get_or table (moves_at table + g) 0
+      ends_all h =
           let read = front_at (moves_at table) (group_moves p mask) table q.table_is.moves_is g group_in
           ∙ rw (sym d.here) at (groups.group_move p mask x d.move d.is_available q.here move_below) in
-          d.same ∙ first_yes d.left d.move (goes_into p mask ys x) good ∙ sym read
+          ends_found h ∙ sym read
+
+      -- so there is one
+      pub ends_can : stop ≤ at → can p mask ys x ≡ true
+      unfolding can
+      ends_can h = lt-ltb (move_into p mask ys x) p.moves (omega (arith, ends_found h, move_below))
+
+      -- the same place, written otherwise
+      pub ends_here : {at' : ℕ} → at' ≡ at → Ends p mask ys x last g stop at'
+      ends_here e = subst (λ (k : ℕ). Ends p mask ys x last g stop k) (sym e) d
 
       module _ (h : at < stop) where
         -- an end is left
@@ -223,6 +262,7 @@ module _ {p : Plant} {mask : ℕ} {table waits : List ℕ} {x : ℕ} (q : Sought
               here = d.here;
               more = d.more;
               stop_is = omega (arith, d.stop_is, length-drop 1 d.todo);
+              inside = d.inside;
               text = rw add-one split.1;
               into = d.into ∙ ap (λ (zs : List ℕ). all_in zs ys) split.0 ∙ rw e;
               same = d.same;
@@ -243,3 +283,52 @@ module _ {p : Plant} {mask : ℕ} {table waits : List ℕ} {x : ℕ} (q : Sought
               more = omega (arith, d.more);
               same = d.same ∙ first_no d.left d.move (goes_into p mask ys x) bad;
             }
+
+-- the ends of a group as a part of the table
+abbrev part_of_table : List ℕ → ℕ → ℕ → List ℕ
+part_of_table table at stop = take (ends_at table + stop - (ends_at table + at)) (drop (ends_at table + at) table)
+
+module _ {p : Plant} {mask : ℕ} {table waits : List ℕ} {x : ℕ} (q : Sought p mask table waits x) {last g stop : ℕ}
+    (limit at i : ℕ) (d : Ends p mask (below waits limit p.states) x last g stop (at + i)) where
+  -- past the last of them
+  pub part_all : length (part_of_table table at stop) ≤ i → stop ≤ at + i
+  part_all h =
+      omega (
+        arith,
+        ends_stop_in q d,
+        length-take (ends_at table + stop - (ends_at table + at)) (drop (ends_at table + at) table),
+        length-drop (ends_at table + at) table,
+      )
+
+  module _ (h : i < length (part_of_table table at stop)) where
+    part_left : at + i < stop
+    part_left =
+        omega (arith, length-take (ends_at table + stop - (ends_at table + at)) (drop (ends_at table + at) table))
+
+    part_read : get_or (part_of_table table at stop) i 0 ≡ get_or table (ends_at table + (at + i)) 0
+    part_read =
+        let place : ends_at table + at + i ≡ ends_at table + (at + i) = omega arith in
+        get_or-take (ends_at table + stop - (ends_at table + at)) (drop (ends_at table + at) table) i 0
+        (omega (arith, part_left))
+        ∙ get_or-drop (ends_at table + at) table i 0
+        ∙ ap (λ (k : ℕ). get_or table k 0) place
+
+    -- the end that is read is a state
+    pub part_state : get_or (part_of_table table at stop) i 0 < p.states
+    part_state = rw part_read (ends_state q d part_left)
+
+    end_test : is_in (get_or table (ends_at table + (at + i)) 0) (below waits limit p.states)
+        ≡ ltb (get_or waits (get_or (part_of_table table at stop) i 0) 0) limit
+    end_test =
+        below_test waits limit p.states (get_or table (ends_at table + (at + i)) 0) (ends_state q d part_left)
+        ∙ ap (λ (y : ℕ). ltb (get_or waits y 0) limit) (sym part_read)
+
+    -- its wait is not below the limit: the groups behind decide
+    pub part_high : limit ≤ get_or waits (get_or (part_of_table table at stop) i 0) 0
+        → Left p mask (below waits limit p.states) x last (g + 1)
+    part_high high = ends_fail q d part_left (end_test ∙ le-ltb _ _ high)
+
+    -- its wait is below the limit: the other ends decide
+    pub part_low : get_or waits (get_or (part_of_table table at stop) i 0) 0 < limit
+        → Ends p mask (below waits limit p.states) x last g stop (at + (i + 1))
+    part_low low = ends_here q (ends_pass q d part_left (end_test ∙ lt-ltb _ _ low)) (omega arith)

@@ -7,6 +7,7 @@ use Prim.Native.Nat.{ℕ, ◌*◌, ◌≤◌}
 use native.Mathlib.Nat.{mul-le-mul_right}
 use native.Mathlib.Omega.{arith}
 use lib.ListN.{length, take}
+use Rattle.std.specs.Prelude.{Option, Some, None}
 use Rattle.statements.specs.Sets.{pick, numbers, over}
 use Rattle.statements.specs.Plants.{plant_of, plant_fault}
 use Rattle.sets.proofs.Members.{Sifted, filter_holds}
@@ -22,13 +23,13 @@ module _ (s : List ℕ) (fine : plant_fault s ≡ 0) (mask groups positions : �
     (g : Graphed (plant_of s) mask groups positions graph) (leave first : List ℕ)
     (set : Sifted (numbers (plant_of s).states 0) first) (exits : Exits (plant_of s) leave first graph) where
   -- as it is said of the plant's own figures
-  worked_here : (r : ℕ) (old waits : List ℕ) → 8192 ≤ length old → length waits ≡ length old
+  worked_here : (r : Option ℕ) (old waits : List ℕ) → 8192 ≤ length old → length waits ≡ length old
       → r ≡ pick (playable graph (plant_of s).states groups positions (plant_of s).goals first (length old))
-      (length (held_in graph (plant_of s).states groups positions (plant_of s).goals first)) 0
+      (Some (length (held_in graph (plant_of s).states groups positions (plant_of s).goals first))) None
       → waits ≡ pick (playable graph (plant_of s).states groups positions (plant_of s).goals first (length old))
       (over (waits_in graph (plant_of s).states groups positions (plant_of s).goals
       (held_in graph (plant_of s).states groups positions (plant_of s).goals first)) old) old
-      → (r ≡ length (kept_from (plant_of s) mask leave first))
+      → (r ≡ Some (length (kept_from (plant_of s) mask leave first)))
       × Columns (plant_of s) mask leave (kept_from (plant_of s) mask leave first) waits
   worked_here r old waits room long er ew =
       let p = plant_of s in
@@ -39,18 +40,19 @@ module _ (s : List ℕ) (fine : plant_fault s ≡ 0) (mask groups positions : �
       let kept = held_in graph p.states groups positions p.goals first in
       let is : waits ≡ over (waits_in graph p.states groups positions p.goals kept) old =
       ew ∙ ap (λ (b : Bool). pick b (over (waits_in graph p.states groups positions p.goals kept) old) old) plays in (
-        er ∙ (ap (λ (b : Bool). pick b (length kept) 0) plays ∙ ap length held),
+        er
+            ∙ (ap (λ (b : Bool). pick b (Some (length kept)) None) plays ∙ ap (λ (ys : List ℕ). Some (length ys)) held),
         subst (λ (ys : List ℕ). Columns p mask leave ys waits) held
             (waits_are p mask ok few groups positions graph g leave first set exits kept old waits held is long room),
       )
 
   -- and of numbers that are equal to these
   pub worked : (n g' q goals : ℕ) → n ≡ (plant_of s).states → g' ≡ groups → q ≡ positions → goals ≡ (plant_of s).goals
-      → (r : ℕ) (old waits : List ℕ) → 8192 ≤ length old → length waits ≡ length old
-      → r ≡ pick (playable graph n g' q goals first (length old)) (length (held_in graph n g' q goals first)) 0
+      → (r : Option ℕ) (old waits : List ℕ) → 8192 ≤ length old → length waits ≡ length old
+      → r ≡ pick (playable graph n g' q goals first (length old)) (Some (length (held_in graph n g' q goals first))) None
       → waits ≡ pick (playable graph n g' q goals first (length old))
       (over (waits_in graph n g' q goals (held_in graph n g' q goals first)) old) old
-      → (r ≡ length (kept_from (plant_of s) mask leave first))
+      → (r ≡ Some (length (kept_from (plant_of s) mask leave first)))
       × Columns (plant_of s) mask leave (kept_from (plant_of s) mask leave first) waits
   worked n g' q goals en eg eq el r old waits room long er ew =
       worked_here r old waits room long (rw (en, eg, eq, el) at er) (rw (en, eg, eq, el) at ew)

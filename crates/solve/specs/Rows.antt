@@ -1,5 +1,5 @@
 -- The rows of a book as numbers, how they stand in its bytes, and what the solver answers.
-use Rattle.std.specs.Prelude.{◌≡◌, Bool, ◌&&◌, not, List, [], ◌∷◌, ◌++◌, ℕ, ◌+◌, ◌-◌, ◌*◌, ◌≤◌, ◌<◌, eqb, leb, length, get_or, take, drop}
+use Rattle.std.specs.Prelude.{◌≡◌, Option, Some, None, Bool, ◌&&◌, not, List, [], ◌∷◌, ◌++◌, ℕ, ◌+◌, ◌-◌, ◌*◌, ◌≤◌, ◌<◌, eqb, leb, length, get_or, take, drop}
 use Rattle.statements.specs.Sets.{pick, joined, iterate, is_in}
 use Rattle.statements.specs.Plants.{Plant, plant_of, move_into}
 use Rattle.statements.specs.Kept.{forced_all, kept_within, stage_of, wait_of, listed_move}
@@ -95,10 +95,11 @@ unfoldable pub solvable : Bool → List ℕ → List ℕ → List ℕ → Bool
 solvable good s start out =
     good && (rising 0 (plant_of s).states start && leb (16 + 2 * rows_long (plant_of s)) (length out))
 
--- the number kept, and the bytes with the rows written behind the header; 65,535 and nothing where it cannot work
-unfoldable pub solved_count : Bool → List ℕ → ℕ → List ℕ → List ℕ → ℕ
-solved_count good s mask start out =
-    pick (solvable good s start out) (length (kept_within (plant_of s) mask (among start))) lost_mark
+-- the number kept, and the bytes with the rows written behind the header; no number, and the bytes as they were, where it
+-- cannot work
+unfoldable pub solved_kept : Bool → List ℕ → ℕ → List ℕ → List ℕ → Option ℕ
+solved_kept good s mask start out =
+    pick (solvable good s start out) (Some (length (kept_within (plant_of s) mask (among start)))) None
 
 unfoldable pub rows_over : Plant → ℕ → List ℕ → List ℕ → List ℕ
 rows_over p mask kept out = take 16 out ++ (bytes_of (row_numbers p mask kept) ++ drop (16 + 2 * rows_long p) out)

@@ -1,52 +1,42 @@
 // The search of the table of moves in service, for the lowest move of a state into the states below a limit.
-ghost use Rattle.std.specs.Prelude.{◌≡◌, ◌<◌, ◌≤◌, length};
+ghost use Rattle.std.specs.Prelude.{◌≡◌, ◌<◌, ◌≤◌, length, is_some, unwrap_or};
 ghost use Rattle.statements.specs.Sets.{lowest};
-ghost use Rattle.statements.specs.Plants.{plant_of, move_into, moves_into};
-ghost use Rattle.solve.specs.Given.{Given, below};
+ghost use Rattle.statements.specs.Plants.{plant_of, move_into, moves_into, can};
+ghost use Rattle.solve.specs.Given.{below};
 
-// The lowest move of a state all of whose ends have a wait below the limit; `none` if there is none. It stops at the
-// first, which is the lowest of all such moves.
-pub(crate) fn search(
-    plant: &[u8],
-    mask: u32,
-    table: &[u16],
-    none: u16,
-    waits: &[u16],
-    limit: u16,
-    state: u16,
-) -> u16
-    requires given { Given plant.now mask table.now none }
-    requires waits_long { (plant_of plant.now).states ≤ length waits.now }
-    requires in_range { state < (plant_of plant.now).states }
-    ensures first { result ≡ move_into (plant_of plant.now) mask
-        (below waits.now limit (plant_of plant.now).states) state }
-    ensures lowest { result ≡ lowest (plant_of plant.now).moves
-        (moves_into (plant_of plant.now) mask
-        (below waits.now limit (plant_of plant.now).states) state) }
-{
-    let room = (table.len() - 1026) / 4;
-    let moves = 1026 + room;
-    let ends = 1026 + 2 * room;
-    let x = state as usize;
-    let mut g = table[x] as usize;
-    let last = table[x + 1] as usize;
-    let found = 'moves: loop {
-        if last <= g {
-            break 'moves none;
-        }
-        let mut at = table[1025 + g] as usize;
-        let stop = table[1026 + g] as usize;
-        loop {
-            if stop <= at {
-                break 'moves table[moves + g];
+use crate::moves::Moves;
+
+impl Moves<'_> {
+    // The lowest move of a state all of whose ends have a wait below the limit, if there is one. It stops at the first,
+    // which is the lowest of all such moves.
+    pub(crate) fn search(&self, waits: &[u16], limit: u16, state: u16) -> Option<u16>
+        requires waits_long { (plant_of self.now.plant.now).states ≤ length waits.now }
+        requires in_range { state < (plant_of self.now.plant.now).states }
+        ensures first { let p = plant_of self.now.plant.now in
+            unwrap_or result p.moves ≡ move_into p self.now.frame.mask (below waits.now limit p.states) state }
+        ensures found { let p = plant_of self.now.plant.now in
+            is_some result ≡ can p self.now.frame.mask (below waits.now limit p.states) state }
+        ensures lowest { let p = plant_of self.now.plant.now in
+            unwrap_or result p.moves ≡ lowest p.moves
+            (moves_into p self.now.frame.mask (below waits.now limit p.states) state) }
+    {
+        let room = (self.table.len() - 1026) / 4;
+        let moves = 1026 + room;
+        let ends = 1026 + 2 * room;
+        let x = state as usize;
+        let first = self.table[x] as usize;
+        let last = self.table[x + 1] as usize;
+        'moves: for g in first..last {
+            let at = self.table[1025 + g] as usize;
+            let stop = self.table[1026 + g] as usize;
+            for end in &self.table[ends + at..ends + stop] {
+                let end = *end as usize;
+                if limit <= waits[end] {
+                    continue 'moves;
+                }
             }
-            let end = table[ends + at] as usize;
-            if limit <= waits[end] {
-                g += 1;
-                continue 'moves;
-            }
-            at += 1;
+            return Some(self.table[moves + g]);
         }
-    };
-    found
+        None
+    }
 }

@@ -6,15 +6,14 @@ use mathlib.Core.List.{List, [], ◌∷◌, ◌++◌, append-nil}
 use Prim.Native.Nat.{ℕ, ◌+◌, ◌*◌, ◌/◌, ◌≤◌, ◌<◌}
 use native.Mathlib.Omega.{arith}
 use lib.ListN.{length, length-append}
-use lib.Seq.{sets}
 use borrow.Author.Tests.{le-leb, lt-leb}
 use Rattle.statements.specs.Sets.{cons_if, numbers, filter, over}
-use Rattle.statements.specs.Books.{two, bytes_of, book_states, is_lost, book_kept, dropped_states}
+use Rattle.statements.specs.Books.{bytes_of, book_states, is_lost, book_kept, dropped_states}
 use Rattle.sets.proofs.Members.{filter_filter, filter_length, filter_snoc, length_numbers, numbers_more}
 use Rattle.sets.proofs.Over.{over_none, over_length}
 use Rattle.decoding.proofs.Sizes.{bytes_length}
 use Rattle.writing.specs.Written.{listable, dropped_count, written_drops}
-use Rattle.writing.proofs.Written.{bytes_more, put_more}
+use Rattle.format.proofs.Stores.{After, fits, bytes_more, put_more}
 
 -- kept in one book and lost in another
 unfoldable pub is_dropped : List ℕ → List ℕ → ℕ → Bool
@@ -85,8 +84,13 @@ module _ {before after d d' : List ℕ} {n x at : ℕ} (r : DropsSoFar before af
   pub drops_place : at ≤ 2 * x
   drops_place = omega (arith, passed_few (is_dropped before after) x)
 
+  -- the buffer keeps its length
+  drops_length : length d' ≡ length d
+  drops_length =
+      ap length r.bytes ∙ over_length (bytes_of Dropped) d (rw bytes_length (omega (arith, drops_place)))
+
   -- the next state is dropped
-  pub drops_more : {d'' : List ℕ} → x < n → not (is_lost before x) && is_lost after x ≡ true → d'' ≡ sets d' at (two x)
+  pub drops_more : {d'' : List ℕ} → x < n → not (is_lost before x) && is_lost after x ≡ true → d'' ≡ After d' at x
       → DropsSoFar before after d d'' n (x + 1) (at + 2)
   unfolding is_dropped
   drops_more h t w =
@@ -99,7 +103,8 @@ module _ {before after d d' : List ℕ} {n x at : ℕ} (r : DropsSoFar before af
         place = rw (one, length-append) (omega arith);
         bytes =
             rw (one, bytes_more)
-            (put_more (bytes_of Dropped) d at x r.bytes (rw bytes_length r.place) (omega (arith, drops_place)) w);
+            (put_more (bytes_of Dropped) d at x r.bytes (rw bytes_length r.place) (omega (arith, drops_place))
+            (w ∙ fits d' at x (omega (arith, drops_place, drops_length))));
       }
 
   -- it is not
@@ -116,11 +121,6 @@ module _ {before after d d' : List ℕ} {n x at : ℕ} (r : DropsSoFar before af
         place = rw none r.place;
         bytes = rw none r.bytes;
       }
-
-  -- the buffer keeps its length
-  pub drops_length : length d' ≡ length d
-  drops_length =
-      ap length r.bytes ∙ over_length (bytes_of Dropped) d (rw bytes_length (omega (arith, drops_place)))
 
   -- no state is left
   module _ (done : n ≤ x) where

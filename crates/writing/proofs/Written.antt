@@ -3,12 +3,11 @@
 use mathlib.Core.Path.{◌≡◌, refl, sym, ap, ap₂, ◌∙◌}
 use mathlib.Core.Logic.{inl, inr}
 use mathlib.Core.Bool.{Bool, true, false}
-use mathlib.Core.List.{List, [], ◌∷◌, ◌++◌, append_assoc, append-nil}
-use Prim.Native.Nat.{ℕ, ◌+◌, ◌*◌, ◌/◌, ◌%◌, ◌≤◌, ◌<◌}
-use native.Mathlib.Numerals.{add-one}
+use mathlib.Core.List.{List, [], ◌∷◌, ◌++◌, append_assoc}
+use Prim.Native.Nat.{ℕ, ◌+◌, ◌*◌, ◌/◌, ◌%◌, ◌≤◌}
 use native.Mathlib.Omega.{arith}
-use lib.ListN.{length, get_or, take, drop, length-append, take-append-drop}
-use lib.Seq.{sets, take-suc, take_all, length-take-le, drop_at}
+use lib.ListN.{length, take, drop, length-append}
+use lib.Seq.{length-take-le, drop_at}
 use Rattle.statements.specs.Sets.{pick, joined, is_in, over}
 use Rattle.statements.specs.Plants.{Plant}
 use Rattle.statements.specs.Kept.{stage_of}
@@ -16,79 +15,9 @@ use Rattle.statements.specs.Books.{two, bytes_of, lost_mark, book_long, entry_of
 use Rattle.solve.specs.Rows.{entry_numbers, stage_numbers, one_row, row_numbers, row_size, rows_long, rows_over}
 use Rattle.sets.proofs.Tests.{decided}
 use Rattle.sets.proofs.Joined.{joined_length, joined_same}
-use Rattle.sets.proofs.Over.{over_length, over_more}
 use Rattle.decoding.proofs.Sizes.{bytes_length, bytes_append}
 use Rattle.solve.proofs.RowBytes.{bytes_joined}
 use Rattle.solve.proofs.RowMarks.{one_size}
-
--- one number more
-pub bytes_more : (xs : List ℕ) (v : ℕ) → bytes_of (xs ++ (v ∷ [])) ≡ bytes_of xs ++ two v
-unfolding bytes_of two
-bytes_more xs v = bytes_append xs (v ∷ [])
-
--- one number more, stored after the bytes written
-pub put_more : (xs o : List ℕ) (at v : ℕ) {o' o'' : List ℕ} → o' ≡ over xs o → at ≡ length xs → at + 2 ≤ length o
-    → o'' ≡ sets o' at (two v) → o'' ≡ over (xs ++ two v) o
-unfolding two
-put_more xs o at v e p h w =
-    w ∙ ap₂ (λ (l : List ℕ) (k : ℕ). sets l k (two v)) e p ∙ over_more xs (two v) o (omega arith)
-
--- a loop that stores a list's numbers one after the other from a place on: k are stored, the next goes to byte at
-pub record PutSoFar (numbers : List ℕ) (from : ℕ) (o o' : List ℕ) (at k : ℕ) : Type 0 where
-  pub within : k ≤ length numbers
-  pub room : from + 2 * length numbers ≤ length o
-  pub place : at ≡ from + 2 * k
-  pub bytes : o' ≡ over (take from o ++ bytes_of (take k numbers)) o
-
--- how many bytes that is
-so_far_length : (numbers : List ℕ) (from : ℕ) (o : List ℕ) (k : ℕ) → k ≤ length numbers → from ≤ length o
-    → length (take from o ++ bytes_of (take k numbers)) ≡ from + 2 * k
-so_far_length numbers from o k h l = simp (length-append, bytes_length, length-take-le) refl
-
--- where the loop begins
-pub put_start : (numbers : List ℕ) (from : ℕ) (o : List ℕ) → from + 2 * length numbers ≤ length o
-    → PutSoFar numbers from o o from 0
-unfolding over bytes_of
-put_start numbers from o h =
-    let l : from ≤ length o = omega arith in
-    record {
-      within = omega arith;
-      room = h;
-      place = omega arith;
-      bytes = rw (append-nil, length-take-le, take-append-drop);
-    }
-
-module _ {numbers : List ℕ} {from : ℕ} {o o' : List ℕ} {at k : ℕ} (r : PutSoFar numbers from o o' at k) where
-  -- one more is stored
-  pub put_next : {o'' : List ℕ} → k < length numbers → o'' ≡ sets o' at (two (get_or numbers k 0))
-      → PutSoFar numbers from o o'' (at + 2) (k + 1)
-  put_next h w =
-      let long = so_far_length numbers from o k (omega arith) (omega arith) in
-      let more = put_more (take from o ++ bytes_of (take k numbers)) o at (get_or numbers k 0) r.bytes
-      (omega arith) (omega arith) w in
-      record {
-        within = omega arith;
-        room = r.room;
-        place = omega arith;
-        bytes = rw (add-one, take-suc numbers k 0, bytes_more) (rw append_assoc at more);
-      }
-
-  -- the buffer keeps its length
-  pub put_length : length o' ≡ length o
-  put_length =
-      let long = so_far_length numbers from o k r.within (omega arith) in
-      ap length r.bytes ∙ over_length (take from o ++ bytes_of (take k numbers)) o (rw long (omega arith))
-
-  -- all are stored
-  pub put_end : length numbers ≤ k → o' ≡ take from o ++ (bytes_of numbers ++ drop (from + 2 * length numbers) o)
-  unfolding over
-  put_end h =
-      let l : from ≤ length o = omega arith in
-      let long : length (take from o ++ bytes_of numbers) ≡ from + 2 * length numbers =
-      simp (length-append, bytes_length, length-take-le) refl in
-      r.bytes
-      ∙ ap (λ (ys : List ℕ). over (take from o ++ bytes_of ys) o) (take_all k numbers h)
-      ∙ rw (long, append_assoc)
 
 -- numbers written before others
 over_before : (xs ys old : List ℕ) → length xs ≤ length old
@@ -101,8 +30,7 @@ over_before xs ys old h =
 -- a book's header, stored as eight numbers
 pub head_stored : (p : Plant) (mask : ℕ) (kept o : List ℕ) (s u n k : ℕ) {o' : List ℕ} → s ≡ p.states → u ≡ p.moves
     → n ≡ p.goals → k ≡ length kept → (long : ℕ) → long ≡ book_long p.settles p.states p.goals
-    → (let numbers = s ∷ u ∷ n ∷ k ∷ mask % 65536 ∷ mask / 65536 ∷ 16 ∷ long ∷ [] in
-    o' ≡ take 0 o ++ (bytes_of numbers ++ drop (0 + 2 * length numbers) o))
+    → o' ≡ over (bytes_of (s ∷ u ∷ n ∷ k ∷ mask % 65536 ∷ mask / 65536 ∷ 16 ∷ long ∷ [])) o
     → o' ≡ over (head_of p mask kept) o
 unfolding head_of bytes_of two over
 head_stored p mask kept o s u n k es eu en ek long el w = w ∙ rw (el, es, eu, en, ek)

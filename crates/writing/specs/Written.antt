@@ -1,5 +1,5 @@
 -- What the writer returns, and what it leaves in a book buffer and in a drop buffer.
-use Rattle.std.specs.Prelude.{Bool, ◌&&◌, List, ℕ, ◌*◌, leb, length}
+use Rattle.std.specs.Prelude.{Bool, ◌&&◌, List, ℕ, ◌*◌, leb, length, Option, Some, None}
 use Rattle.statements.specs.Sets.{pick, over}
 use Rattle.statements.specs.Plants.{plant_of}
 use Rattle.statements.specs.Books.{bytes_of, book_long, book_states, book_within, dropped_states}
@@ -12,10 +12,10 @@ writable good s start o =
     && (rising 0 (plant_of s).states start
     && leb (book_long (plant_of s).settles (plant_of s).states (plant_of s).goals) (length o))
 
--- the book's length, and the buffer with the book written; 0 and nothing where it cannot be written
-unfoldable pub written_long : Bool → List ℕ → List ℕ → List ℕ → ℕ
+-- the book's length, and the buffer with the book written; None and nothing where it cannot be written
+unfoldable pub written_long : Bool → List ℕ → List ℕ → List ℕ → Option ℕ
 written_long good s start o =
-    pick (writable good s start o) (book_long (plant_of s).settles (plant_of s).states (plant_of s).goals) 0
+    pick (writable good s start o) (Some (book_long (plant_of s).settles (plant_of s).states (plant_of s).goals)) None
 
 unfoldable pub written_book : Bool → List ℕ → ℕ → List ℕ → List ℕ → List ℕ
 written_book good s mask start o =

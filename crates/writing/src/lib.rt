@@ -1,43 +1,18 @@
 // Writing: the bytes of a book, and the list of dropped states.
 #![tactic(auto)]
 
-ghost use Rattle.std.specs.Prelude.{◌≡◌, List, ◌++◌, ℕ, ◌+◌, ◌*◌, ◌≤◌, length, take, drop};
-ghost use Rattle.std.proofs.lemmas.List.Edits.{sets};
+ghost use Rattle.std.specs.Prelude.{◌≡◌, List, ℕ, ◌≤◌, length};
 ghost use Rattle.statements.specs.Sets.{over};
 ghost use Rattle.statements.specs.Plants.{plant_of, plant_fault};
-ghost use Rattle.statements.specs.Books.{two, bytes_of, head_of};
-ghost use Rattle.graph.specs.Packed.{accepts};
+ghost use Rattle.statements.specs.Books.{head_of};
+ghost use Rattle.graph.specs.Packed.{accepts_by};
 ghost use Rattle.writing.specs.Written.{written_long, written_book, dropped_count, written_drops};
 
 use format::plant::book_long;
-use format::word::number;
+use format::word::{number, put, put_all};
 use graph::Way;
 use rows::{lost_in, staged};
 use solve::solve;
-
-// A two-byte number at a place, the low byte first.
-fn put(out: &mut [u8], at: usize, v: u16)
-    requires { at + 2 ≤ length out.old }
-    ensures { out.new ≡ sets out.old at (two v) }
-{
-    out[at] = (v % 256) as u8;
-    out[at + 1] = (v / 256) as u8;
-}
-
-// Two-byte numbers from a place on, one after the other.
-fn put_all(numbers: &[u16], from: usize, out: &mut [u8])
-    requires { from + 2 * length numbers.now ≤ length out.old }
-    ensures { out.new ≡ take from out.old ++ (bytes_of numbers.now
-        ++ drop (from + 2 * length numbers.now) out.old) }
-{
-    let mut at = from;
-    let mut k = 0;
-    while k < numbers.len() {
-        put(out, at, numbers[k]);
-        at += 2;
-        k += 1;
-    }
-}
 
 // The header: eight numbers, the last the length by the plant's sort.
 fn head(plant: &[u8], mask: u32, kept: u16, out: &mut [u8])
@@ -53,28 +28,25 @@ fn head(plant: &[u8], mask: u32, kept: u16, out: &mut [u8])
     let high = (mask / 65536) as u16;
     let long = book_long(plant) as u16;
     let numbers = [states, moves, goals, kept, low, high, 16, long];
-    put_all(&numbers, 0, out);
+    put_all(&numbers, out);
 }
 
 // Writes the book for the moves in service when strategies may not leave the states of a start, a rising list, by an
 // index where one is lent; returns its length. Where the plant is refused, the bytes lent are not its index, the start
-// is no such list or the buffer is too short it returns 0 and writes nothing.
-pub fn book(plant: &[u8], index: &[u8], way: Way, start: &[u16], out: &mut [u8]) -> u32
-    ensures long { result ≡ written_long (accepts way.indexed index.now plant.now)
+// is no such list or the buffer is too short it returns None and writes nothing.
+pub fn book(plant: &[u8], way: Way, start: &[u16], out: &mut [u8]) -> Option<u32>
+    ensures long { result ≡ written_long (accepts_by way.entry.index plant.now)
         plant.now start.now out.old }
     ensures bytes { out.new
-        ≡ written_book (accepts way.indexed index.now plant.now)
-        plant.now way.mask start.now out.old }
+        ≡ written_book (accepts_by way.entry.index plant.now)
+        plant.now way.entry.mask start.now out.old }
 {
-    let kept = solve(plant, index, way, start, out);
-    let refused = kept == 65535;
-    if refused {
-        return 0;
-    }
-    head(plant, way.mask, kept as u16, out);
-    book_long(plant) as u32
+    let kept = solve(plant, way, start, out)?;
+    head(plant, way.mask, kept, out);
+    Some(book_long(plant) as u32)
 }
 
+// Kept: an Option for the count is no plainer, since each caller has room and would take the number out again.
 // Lists the states kept in one book and lost in another, rising; returns how many. Where the drop buffer has no room
 // for every state it returns 0 and writes nothing.
 pub fn dropped(before: &[u8], after: &[u8], drops: &mut [u8]) -> u32
@@ -83,20 +55,18 @@ pub fn dropped(before: &[u8], after: &[u8], drops: &mut [u8]) -> u32
         written_drops before.now after.now drops.old }
 {
     let states = number(before, 0);
-    if drops.len() < 2 * (states as usize) {
+    if drops.len() < 2 * usize::from(states) {
         return 0;
     }
     let stages_before = staged(before);
     let stages_after = staged(after);
-    let mut state: u16 = 0;
     let mut at: usize = 0;
-    while state < states {
-        let was_lost = lost_in(before, stages_before, state as u32);
-        if !was_lost & lost_in(after, stages_after, state as u32) {
+    for state in 0..states {
+        let was_lost = lost_in(before, stages_before, u32::from(state));
+        if !was_lost & lost_in(after, stages_after, u32::from(state)) {
             put(drops, at, state);
             at += 2;
         }
-        state += 1;
     }
     (at / 2) as u32
 }

@@ -1,17 +1,18 @@
 -- An accepted state's row stands within the book.
 use Rattle.std.proofs.Common.{◌≡◌, refl, sym, ap, ◌∙◌, arith, List, ℕ, length}
 use lib.Dec.{eqb}
+use Rattle.refusal.proofs.Refused.{accepted, not_accepted}
 use Rattle.promises.proofs.Rows.{no_row, no_start, empty_row, start_given, row_fits, full_row}
 use Rattle.promises.proofs.Demands.{of_row}
 use Rattle.statements.specs.Calls.{consult_fault}
 use Rattle.consult.proofs.Consulted.{row_is}
 use Rattle.consult.proofs.state_row.Goals as goal
 
-pub returns-then-consult-ne0 : goal.returns-then-consult-ne0
-returns-then-consult-ne0 c =
+pub returns-then-is_err : goal.returns-then-is_err
+returns-then-is_err c =
     let a = c.args in
     let refused : consult_fault a.book.now a.state 0 ≡ 0 → ⊥ =
-    λ z. c.if-consult-ne0.true (c.consult.ensures ∙ z)
+    not_accepted _ c.consult.ensures c.is_err.ensures.value c.if-is_err.true
     in
     record {
       row_says =
@@ -27,16 +28,16 @@ returns-then-consult-ne0 c =
 
 pub overflow_add-end : goal.overflow_add-end
 overflow_add-end c =
-    omega (arith, row_fits c.args.book.now c.args.state (sym c.consult.ensures ∙ c.if-consult-ne0.false))
+    omega (arith, row_fits c.args.book.now c.args.state (accepted _ c.consult.ensures c.is_err.ensures.value c.if-is_err.false))
 
 pub slice_bounds-result-end-2 : goal.slice_bounds-result-end-2
 slice_bounds-result-end-2 c =
-    omega (arith, row_fits c.args.book.now c.args.state (sym c.consult.ensures ∙ c.if-consult-ne0.false))
+    omega (arith, row_fits c.args.book.now c.args.state (accepted _ c.consult.ensures c.is_err.ensures.value c.if-is_err.false))
 
 pub returns : goal.returns
 returns c =
     let a = c.args in
-    let given : consult_fault a.book.now a.state 0 ≡ 0 = sym c.consult.ensures ∙ c.if-consult-ne0.false in
+    let given : consult_fault a.book.now a.state 0 ≡ 0 = accepted _ c.consult.ensures c.is_err.ensures.value c.if-is_err.false in
     let part = row_is a.book.now a.state _ _ given c.row_place-start.ensures (omega arith) in
     record {
       row_says =

@@ -1,0 +1,13 @@
+-- The first answer, or where there is none the second.
+use Rattle.std.proofs.Common.{rules}
+use Rattle.statements.specs.Calls.{withdraw_fault}
+use Rattle.refusals.proofs.Refusals.{first_err, first_ok}
+use Rattle.refusals.proofs.withdraw.Goals as goal
+
+pub returns-in_err-lent : goal.returns-in_err-lent
+unfolding withdraw_fault
+returns-in_err-lent c = search (rules, first_err, c.in_err-lent.ensures)
+
+pub returns : goal.returns
+unfolding withdraw_fault
+returns c = first_ok _ c.in_ok-lent.ensures c.given.ensures
