@@ -98,35 +98,3 @@ pub sieved_end : {f : ℕ → Bool} {count : ℕ} {old new : List ℕ} {kept k :
 sieved_end {f} {count} {old} {kept = kept} r h =
     let end = sieve_end r (omega (arith, r.within)) in
     (end.0, rw end.1 (over_back (filter f (take count old)) old kept end.0))
-
--- the same where only the numbers that passed are counted: none yet, one more or no more of the next, and all
-pub front_start : (f : ℕ → Bool) (count : ℕ) (old : List ℕ) → count ≤ length old
-    → Sieved f count old old (0 + (count - 0)) 0
-front_start f count old h =
-    let number : 0 + (count - 0) ≡ count = omega arith in
-    rw number (sieve_start f count old h)
-
-pub front_yes : {f : ℕ → Bool} {count : ℕ} {old new : List ℕ} (kept : ℕ) {k : ℕ}
-    → Sieved f count old new (kept + (count - k)) k → k < count → f (get_or new k 0) ≡ true
-    → Sieved f count old (set new kept (get_or new k 0)) (kept + 1 + (count - (k + 1))) (k + 1)
-front_yes {count = count} kept {k} r more t =
-    let place : k - (count - (kept + (count - k))) ≡ kept = omega (arith, r.least, r.most) in
-    let number : kept + (count - k) ≡ kept + 1 + (count - (k + 1)) = omega arith in
-    let next = sieve_yes r more t in
-    rw number at (rw place at next)
-
-pub front_no : {f : ℕ → Bool} {count : ℕ} {old new : List ℕ} (kept : ℕ) {k : ℕ}
-    → Sieved f count old new (kept + (count - k)) k → k < count → f (get_or new k 0) ≡ false
-    → Sieved f count old new (kept + (count - (k + 1))) (k + 1)
-front_no {count = count} kept {k} r more t =
-    let number : kept + (count - k) - 1 ≡ kept + (count - (k + 1)) = omega arith in
-    let next = sieve_no r more t in
-    rw number at next
-
-pub front_end : {f : ℕ → Bool} {count : ℕ} {old new : List ℕ} (kept : ℕ) {k : ℕ}
-    → Sieved f count old new (kept + (count - k)) k → count ≤ k
-    → (kept ≡ length (filter f (take count old))) × (take kept new ≡ filter f (take count old))
-front_end {count = count} kept {k} r h =
-    let number : kept + (count - k) ≡ kept = omega arith in
-    let end = sieved_end r h in
-    rw number at end

@@ -1,8 +1,8 @@
 // Loops over slices of 16-bit numbers. Each is total: where something does not fit it writes nothing.
 #![tactic(auto)]
 
-ghost use Rattle.std.specs.Prelude.{◌≡◌, true, ℕ, Bool, ◌≤◌, length, take};
-ghost use Rattle.statements.specs.Sets.{over, is_in, filter};
+ghost use Rattle.std.specs.Prelude.{◌≡◌};
+ghost use Rattle.statements.specs.Sets.{over};
 ghost use Rattle.arrays.specs.Lists.{fitting, zeroed, rising};
 
 // Copies a list over the front of another.
@@ -42,26 +42,4 @@ pub fn rises(list: &[u16], limit: usize) -> bool
         good &= list[k] < list[k + 1];
     }
     good & (usize::from(list[n]) < limit)
-}
-
-// Strikes out those of the first numbers of a list that fail a test: the others close up at its front, in their order.
-// Hands on how many are left, one less for each that is struck out.
-pub fn sift<F: Fn(u16) -> bool>(list: &mut [u16], count: usize, keep: F) -> usize
-    requires room { count ≤ length list.old }
-    requires callable { (x : ℕ) → is_in x (take count list.old) ≡ true → F.pre keep x }
-    ensures number { (test : ℕ → Bool) → ((x : ℕ) (b : Bool) → F.post keep x b → b ≡ test x)
-        → result ≡ length (filter test (take count list.old)) }
-    ensures still { (test : ℕ → Bool) → ((x : ℕ) (b : Bool) → F.post keep x b → b ≡ test x)
-        → take result list.new ≡ filter test (take count list.old) }
-{
-    let mut kept = count;
-    for k in 0..count {
-        let number = list[k];
-        if keep(number) {
-            list[k - (count - kept)] = number;
-        } else {
-            kept -= 1;
-        }
-    }
-    kept
 }

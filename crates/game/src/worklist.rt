@@ -12,7 +12,6 @@ ghost use Rattle.game.specs.Draining.{Ending};
 use crate::reach::Figures;
 use crate::strike::cut;
 use crate::{Line, places};
-use arrays::sift;
 use format::word::bit_at;
 
 // Puts a node on the worklist: it is not marked any more.
@@ -167,6 +166,28 @@ impl Game<'_> {
         }
         tail
     }
+}
+
+// Strikes out those of the first numbers of a list that fail a test: the others close up at its front, in their order.
+// Hands on how many are left, one less for each that is struck out.
+fn sift<F: Fn(u16) -> bool>(list: &mut [u16], count: usize, keep: F) -> usize
+    requires room { count ≤ length list.old }
+    requires callable { (x : ℕ) → is_in x (take count list.old) ≡ true → F.pre keep x }
+    ensures number { (test : ℕ → Bool) → ((x : ℕ) (b : Bool) → F.post keep x b → b ≡ test x)
+        → result ≡ length (filter test (take count list.old)) }
+    ensures still { (test : ℕ → Bool) → ((x : ℕ) (b : Bool) → F.post keep x b → b ≡ test x)
+        → take result list.new ≡ filter test (take count list.old) }
+{
+    let mut kept = count;
+    for k in 0..count {
+        let number = list[k];
+        if keep(number) {
+            list[k - (count - kept)] = number;
+        } else {
+            kept -= 1;
+        }
+    }
+    kept
 }
 
 // Cuts a list down to the nodes that are marked or at which a run is over: takes the nodes held, at the front of a

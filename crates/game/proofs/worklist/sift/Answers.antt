@@ -4,8 +4,8 @@ use Rattle.std.proofs.Common.{zero, suc, [], ◌∷◌, eqb, eq-eqb}
 use Rattle.statements.specs.Sets.{is_in}
 use Rattle.sets.proofs.Tests.{or_left, or_right}
 use Rattle.arrays.proofs.Sieves.{sieve_start, sieve_yes, sieve_no, sieved_end}
-use Rattle.arrays.proofs.sift.Goals as goal
-use Rattle.arrays.proofs.sift.Goals.{then-keep, else-keep}
+use Rattle.game.proofs.worklist.sift.Goals as goal
+use Rattle.game.proofs.worklist.sift.Goals.{then-keep, else-keep}
 
 -- what stands at one of the first places is a member of the front
 take_in : (h i : ℕ) (xs : List ℕ) → i < h → h ≤ length xs → is_in (get_or xs i 0) (take h xs) ≡ true

@@ -1,7 +1,7 @@
 -- Those of the first k numbers that pass are at the front, and the numbers from k on are as they were.
 use Rattle.std.proofs.Common.{◌≡◌, ℕ, Bool, ◌+◌, ◌≤◌, get_or}
 use Rattle.arrays.proofs.Sieves.{Sieved}
-use Rattle.arrays.proofs.sift.Given as goal
+use Rattle.game.proofs.worklist.sift.Given as goal
 
 abbrev pub invariant-loop-k : goal.invariant-loop-k
 invariant-loop-k g l =
