@@ -1,6 +1,6 @@
 // The public calls that write a book: make one, withdraw moves from it, once or by a list, or see what that would cost,
 // return moves to it; and the one that writes the index of a plant.
-#![tactic(auto, using(demands::proofs::Demand2::demand_2, demands::proofs::Demand3::demand_3, demands::proofs::InTurn::in_turn_lem, demands::proofs::Returning::returning, demands::proofs::ByIndex::by_index_lem, demands::proofs::Elsewhere::elsewhere, promises::proofs::Written::demand_2_written, promises::proofs::Traces::demand_3_traced, promises::proofs::InTurn::in_turn_traced, promises::proofs::Returning::returning_traced, promises::proofs::Indexed::indexed, promises::proofs::Elsewhere::elsewhere_traced, promises::proofs::Previewed::previewed, crate::proofs::Answered::drops_listed))]
+#![tactic(auto, using(demands::proofs::Demand2::demand_2, demands::proofs::Demand3::demand_3, demands::proofs::InTurn::in_turn_lem, demands::proofs::Returning::returning, demands::proofs::ByIndex::by_index_lem, demands::proofs::Elsewhere::elsewhere, promises::proofs::Written::demand_2_written, promises::proofs::Traces::demand_3_traced, promises::proofs::InTurn::in_turn_traced, promises::proofs::Returning::returning_traced, promises::proofs::Indexed::indexed, promises::proofs::Elsewhere::elsewhere_traced, promises::proofs::Previewed::previewed, promises::proofs::Determined::determined, crate::proofs::Answered::drops_listed))]
 
 mod make;
 mod start;
@@ -83,7 +83,9 @@ pub fn make_indexed(plant: &[u8], index: &[u8], mask: u32, out: &mut [u8]) -> Re
 }
 
 // Takes a plant, a book, a mask of moves to withdraw, a book buffer and a drop buffer. Writes the book and, by rising
-// number, the states kept before and lost now; returns the book's length and how many they are.
+// number, the states kept before and lost now; returns the book's length and how many they are. It is inlined, so that a
+// preview, which has the deepest path, takes a frame less of stack.
+#[inline(always)]
 pub fn withdraw_moves(
     plant: &[u8],
     book: &[u8],

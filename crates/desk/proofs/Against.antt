@@ -1,6 +1,6 @@
 -- What the desk's promises come to against those of consult: `Answering`, from what consult's calls promise. Assumes
 -- nothing.
-use mathlib.Core.Path.{◌≡◌, refl, sym, ◌∙◌, subst}
+use mathlib.Core.Path.{◌≡◌, refl, sym, ap, ◌∙◌, subst}
 use mathlib.Core.Logic.{◌⊎◌, inl, inr}
 use mathlib.Core.Bool.{true, false}
 use mathlib.Core.List.{List}
@@ -16,7 +16,8 @@ use Rattle.sets.proofs.Tests.{decided, same_number, not_both}
 use Rattle.promises.specs.Answers.{Advice}
 use Rattle.promises.specs.Says.{accepted, keeps, ConsultSays, Advises, step_fault, Determined}
 use Rattle.promises.specs.Steps.{Steps}
-use Rattle.desk.specs.Desk.{Desk}
+use Rattle.desk.specs.declared.AtDesk.{AtDesk}
+use Rattle.desk.specs.Desk.{Desk, desk_of}
 use Rattle.desk.specs.Desk.{strays, report_fault, goal_held, StartSays, ReportSays, Answering}
 use Rattle.desk.proofs.Answers.{lost_is, action_is, seek_is, goal_kept, goal_lost, fault_before, fault_after}
 use Rattle.desk.proofs.Answers.{strays_lost, strays_kept}
@@ -160,6 +161,12 @@ module _ (steps : Steps) (determined : Determined) where
 same_desk : {r r' : Desk} → r.advice ≡ r'.advice → r.state ≡ r'.state → r.goal ≡ r'.goal → r ≡ r'
 same_desk a x g = λ j. record { advice = a j; state = x j; goal = g j }
 
+-- what the desk hands back is told by the fields
+same_at_desk : Determined → (r r' : AtDesk) → desk_of r ≡ desk_of r' → r ≡ r'
+same_at_desk determined r r' e =
+    let advice = determined.advices r.advice r'.advice (ap (λ (d : Desk). d.advice) e) in
+    λ j. record { advice = advice j; state = (e j).state; goal = (e j).goal }
+
 pub answering : Steps → Determined → Answering
 answering steps determined =
     record {
@@ -179,4 +186,5 @@ answering steps determined =
           same_desk (determined.advice h.shows k.shows) (h.state ∙ sym k.state) (h.goal ∙ sym k.goal);
       report_determined = λ h k.
           same_desk (determined.advice h.shows k.shows) (h.state ∙ sym k.state) (h.goal ∙ sym k.goal);
+      desks = same_at_desk determined;
     }

@@ -76,3 +76,5 @@ pub record Answering : Type 0 where
   pub start_determined : {s b : List ℕ} {x : ℕ} {r r' : Desk} → StartSays s b x r → StartSays s b x r' → r ≡ r'
   pub report_determined : {s b : List ℕ} {x i y : ℕ} {r r' : Desk} → ReportSays s b x i y r →
       ReportSays s b x i y r' → r ≡ r'
+  -- the fields fix what the desk hands back
+  pub desks : (r r' : AtDesk) → desk_of r ≡ desk_of r' → r ≡ r'

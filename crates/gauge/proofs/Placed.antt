@@ -16,7 +16,10 @@ use Rattle.statements.specs.Plants.{first_of, when}
 use Rattle.sets.proofs.Tests.{and_iff, and_left, and_right, and_true}
 use Rattle.sets.proofs.First.{first_holds, first_least}
 use Rattle.gauge.specs.declared.Band.{Band}
-use Rattle.gauge.specs.Bands.{Place}
+use Rattle.std.specs.Prelude.{Option, Some, None, Result, Ok, Err}
+use Rattle.refusal.specs.declared.Refusal.{Refusal}
+use Rattle.refusal.proofs.Refused.{some_refusal, same_refusal}
+use Rattle.gauge.specs.Bands.{Place, place_of}
 use Rattle.gauge.specs.Numbers.{Number, value_of}
 use Rattle.gauge.specs.Bands.{band_of, table_ok, deviation_of, reading_ok, gauge_fault, holds, band_at, PlaceSays}
 use Rattle.gauge.specs.Placed.{In, Table, Readable, Means, Placed}
@@ -152,6 +155,18 @@ module _ (kinds : List ℕ) (ends : List Float) (states : List ℕ) (s : ℕ) (r
 same_place : {r q : Place} → r.number ≡ q.number → r.found ≡ q.found → r.state ≡ q.state → r ≡ q
 same_place en ef es = λ k. record { number = en k; found = ef k; state = es k }
 
+-- what the call hands back is told by the fields
+same_found : (r q : Result (Option ℕ) Refusal) → place_of r ≡ place_of q → r ≡ q
+same_found (Ok (Some x)) (Ok (Some y)) e = λ k. Ok (Some (e k).state)
+same_found (Ok (Some x)) (Ok None) e = absurd (true≢false (ap (λ (p : Place). p.found) e))
+same_found (Ok None) (Ok (Some y)) e = absurd (true≢false (sym (ap (λ (p : Place). p.found) e)))
+same_found (Ok None) (Ok None) e = λ k. Ok None
+same_found (Ok (Some x)) (Err why) e = absurd (some_refusal why (sym (ap (λ (p : Place). p.number) e)))
+same_found (Ok None) (Err why) e = absurd (some_refusal why (sym (ap (λ (p : Place). p.number) e)))
+same_found (Err why) (Ok (Some y)) e = absurd (some_refusal why (ap (λ (p : Place). p.number) e))
+same_found (Err why) (Ok None) e = absurd (some_refusal why (ap (λ (p : Place). p.number) e))
+same_found (Err why) (Err other) e = ap Err (same_refusal why other (ap (λ (p : Place). p.number) e))
+
 -- all of it
 pub placed : Placed
 placed =
@@ -159,4 +174,5 @@ placed =
       one = one;
       means = means;
       determined = λ kinds ends states s reading aim r q h k. same_place (cc) (cc) (cc);
+      places = same_found;
     }

@@ -1,6 +1,6 @@
 -- Request (xi) in its own words: what a table in order is, and what the call's answers come to, for numbers of
 -- millimetres as they are and not as a machine compares them.
-use Rattle.std.specs.Prelude.{◌≡◌, true, false, List, ◌↔◌, ℕ, ◌*◌, ◌≤◌, ◌<◌, length, get_or, Float}
+use Rattle.std.specs.Prelude.{◌≡◌, Option, Result, true, false, List, ◌↔◌, ℕ, ◌*◌, ◌≤◌, ◌<◌, length, get_or, Float}
 use Rattle.std.specs.Float.{binary64}
 use Rattle.std.specs.Float.Ieee.{fits, le, lt}
 use Rattle.gauge.specs.Numbers.{Number, Below, AtMost, less, apart, is_finite, value_of}
@@ -8,7 +8,8 @@ use Rattle.gauge.specs.Bands.{band_of, deviation_of, PlaceSays}
 use Rattle.gauge.specs.declared.End.{End}
 use Rattle.gauge.specs.declared.End.TheVariants.{Open, At}
 use Rattle.gauge.specs.declared.Band.{Band}
-use Rattle.gauge.specs.Bands.{Place}
+use Rattle.gauge.specs.Bands.{Place, place_of}
+use Rattle.refusal.specs.declared.Refusal.{Refusal}
 
 -- an end is open without limit or a finite number
 abbrev pub IsEnd : End → Type 0
@@ -90,6 +91,8 @@ pub record Placed : Type 0 where
   -- nothing is left open
   pub determined : (kinds : List ℕ) (ends : List Float) (states : List ℕ) (s : ℕ) (reading aim : Float)
       (r q : Place) → PlaceSays kinds ends states s reading aim r → PlaceSays kinds ends states s reading aim q → r ≡ q
+  -- the fields fix what the call hands back, the refusal or the state found
+  pub places : (r q : Result (Option ℕ) Refusal) → place_of r ≡ place_of q → r ≡ q
 
 -- the exact difference of two finite floats
 unfoldable pub difference : Float → Float → Number

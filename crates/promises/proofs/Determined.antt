@@ -1,13 +1,21 @@
 -- What is handed in fixes what the calls answer and write: each promise is an equation for every field and buffer, and
 -- what hangs on the answer's number hangs on what is handed in. Assumes nothing.
 use mathlib.Core.Path.{◌≡◌, sym, ap, ◌∙◌}
+use mathlib.Core.Bool.{Bool, true≢false}
 use mathlib.Core.List.{List}
 use Prim.Native.Nat.{ℕ}
-use Rattle.promises.specs.Answers.{Advice}
-use Rattle.promises.specs.Answers.{Answer}
-use Rattle.promises.specs.Answers.{Cost}
-use Rattle.promises.specs.Answers.{Mask}
-use Rattle.promises.specs.Answers.{Stepped}
+use Rattle.std.specs.Prelude.{Option, Some, None, Result, Ok, Err}
+use Rattle.refusal.specs.declared.Refusal.{Refusal}
+use Rattle.refusal.proofs.Refused.{some_refusal, same_refusal}
+use Rattle.promises.specs.declared.Wrote.{Wrote}
+use Rattle.promises.specs.declared.Preview.{Preview}
+use Rattle.promises.specs.declared.NextMove.{NextMove}
+use Rattle.promises.specs.declared.Step.{Step}
+use Rattle.promises.specs.Answers.{Advice, advice_of}
+use Rattle.promises.specs.Answers.{Answer, answer_of}
+use Rattle.promises.specs.Answers.{Cost, cost_of}
+use Rattle.promises.specs.Answers.{Mask, mask_of}
+use Rattle.promises.specs.Answers.{Stepped, stepped_of}
 use Rattle.promises.specs.Says.{Advises, StepSays, Writes, Determined}
 
 -- answers with the same fields are the same
@@ -44,6 +52,43 @@ same_written : {number : ℕ} {after listed o o' o'' d d' d'' : List ℕ} {r r' 
     → (r ≡ r') × (o' ≡ o'') × (d' ≡ d'')
 same_written h k = (same_answer (cc) (cc) (cc), cc, cc)
 
+-- what a call hands back is told by the fields: it is accepted in one where it is in the other, and gives the same
+pub same_wrote : (r r' : Result Wrote Refusal) → answer_of r ≡ answer_of r' → r ≡ r'
+same_wrote (Ok w) (Ok w') e = λ k. Ok (record { length = (e k).length; drops = (e k).drops })
+same_wrote (Ok w) (Err why) e = absurd (some_refusal why (sym (ap (λ (a : Answer). a.number) e)))
+same_wrote (Err why) (Ok w) e = absurd (some_refusal why (ap (λ (a : Answer). a.number) e))
+same_wrote (Err why) (Err why') e = ap Err (same_refusal why why' (ap (λ (a : Answer). a.number) e))
+
+pub same_preview : (r r' : Result Preview Refusal) → cost_of r ≡ cost_of r' → r ≡ r'
+same_preview (Ok p) (Ok p') e = λ k. Ok (record { drops = (e k).drops; kept = (e k).kept })
+same_preview (Ok p) (Err why) e = absurd (some_refusal why (sym (ap (λ (c : Cost). c.number) e)))
+same_preview (Err why) (Ok p) e = absurd (some_refusal why (ap (λ (c : Cost). c.number) e))
+same_preview (Err why) (Err why') e = ap Err (same_refusal why why' (ap (λ (c : Cost). c.number) e))
+
+pub same_advised : (r r' : Result (Option NextMove) Refusal) → advice_of r ≡ advice_of r' → r ≡ r'
+same_advised (Ok (Some m)) (Ok (Some m')) e =
+    λ k. Ok (Some (record { action = (e k).action; wait = (e k).wait; seek = (e k).seek }))
+same_advised (Ok (Some m)) (Ok None) e = absurd (true≢false (sym (ap (λ (a : Advice). a.lost) e)))
+same_advised (Ok None) (Ok (Some m)) e = absurd (true≢false (ap (λ (a : Advice). a.lost) e))
+same_advised (Ok None) (Ok None) e = λ k. Ok None
+same_advised (Ok (Some m)) (Err why) e = absurd (some_refusal why (sym (ap (λ (a : Advice). a.number) e)))
+same_advised (Ok None) (Err why) e = absurd (some_refusal why (sym (ap (λ (a : Advice). a.number) e)))
+same_advised (Err why) (Ok (Some m)) e = absurd (some_refusal why (ap (λ (a : Advice). a.number) e))
+same_advised (Err why) (Ok None) e = absurd (some_refusal why (ap (λ (a : Advice). a.number) e))
+same_advised (Err why) (Err why') e = ap Err (same_refusal why why' (ap (λ (a : Advice). a.number) e))
+
+pub same_moves : (r r' : Result ℕ Refusal) → mask_of r ≡ mask_of r' → r ≡ r'
+same_moves (Ok m) (Ok m') e = λ k. Ok (e k).mask
+same_moves (Ok m) (Err why) e = absurd (some_refusal why (sym (ap (λ (a : Mask). a.number) e)))
+same_moves (Err why) (Ok m) e = absurd (some_refusal why (ap (λ (a : Mask). a.number) e))
+same_moves (Err why) (Err why') e = ap Err (same_refusal why why' (ap (λ (a : Mask). a.number) e))
+
+pub same_stepped : (r r' : Step) → stepped_of r ≡ stepped_of r' → r ≡ r'
+same_stepped r r' e =
+    let here = same_advised r.here r'.here (ap (λ (s : Stepped). s.here) e) in
+    let next = same_advised r.next r'.next (ap (λ (s : Stepped). s.next) e) in
+    λ k. record { here = here k; leads = (e k).leads; next = next k }
+
 pub determined : Determined
 determined =
     record {
@@ -55,4 +100,9 @@ determined =
       index = λ s h k. let same = same_written h k in (same.0, same.1);
       preview = λ h k. (same_cost (cc) (cc) (cc), cc);
       row = λ h k. (cc, same_pointer (cc) (cc));
+      answers = same_wrote;
+      costs = same_preview;
+      advices = same_advised;
+      masks = same_moves;
+      steps = same_stepped;
     }

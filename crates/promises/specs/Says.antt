@@ -1,10 +1,16 @@
 -- What the public calls promise, field by field, in the definitions of crate statements.
 use Rattle.std.specs.Prelude.{◌≡◌, ◌↔◌, Bool, true, false, ◌&&◌, not, List, [], ℕ, ◌+◌, ◌*◌, ◌<◌, eqb, length, take, drop}
-use Rattle.promises.specs.Answers.{Advice}
-use Rattle.promises.specs.Answers.{Answer}
-use Rattle.promises.specs.Answers.{Cost}
-use Rattle.promises.specs.Answers.{Mask}
-use Rattle.promises.specs.Answers.{Stepped}
+use Rattle.std.specs.Prelude.{Option, Result}
+use Rattle.refusal.specs.declared.Refusal.{Refusal}
+use Rattle.promises.specs.declared.Wrote.{Wrote}
+use Rattle.promises.specs.declared.Preview.{Preview}
+use Rattle.promises.specs.declared.NextMove.{NextMove}
+use Rattle.promises.specs.declared.Step.{Step}
+use Rattle.promises.specs.Answers.{Advice, advice_of}
+use Rattle.promises.specs.Answers.{Answer, answer_of}
+use Rattle.promises.specs.Answers.{Cost, cost_of}
+use Rattle.promises.specs.Answers.{Mask, mask_of}
+use Rattle.promises.specs.Answers.{Stepped, stepped_of}
 use Rattle.statements.specs.Sets.{pick, over, is_in}
 use Rattle.statements.specs.Plants.{first_of, words, plant_of, ends}
 use Rattle.statements.specs.Books.{bytes_of, book_count, row_place, wait_at, move_at, is_lost, arrive, good_moves}
@@ -167,3 +173,9 @@ pub record Determined : Type 0 where
   -- of a row its bytes and its place
   pub row : {b row row' : List ℕ} {x : ℕ} {lent part part' : ℕ × ℕ} →
       RowSays b x lent row part → RowSays b x lent row' part' → (row ≡ row') × (part ≡ part')
+  -- the fields fix what a call hands back, the refusal or what it gives
+  pub answers : (r r' : Result Wrote Refusal) → answer_of r ≡ answer_of r' → r ≡ r'
+  pub costs : (r r' : Result Preview Refusal) → cost_of r ≡ cost_of r' → r ≡ r'
+  pub advices : (r r' : Result (Option NextMove) Refusal) → advice_of r ≡ advice_of r' → r ≡ r'
+  pub masks : (r r' : Result ℕ Refusal) → mask_of r ≡ mask_of r' → r ≡ r'
+  pub steps : (r r' : Step) → stepped_of r ≡ stepped_of r' → r ≡ r'

@@ -1,5 +1,5 @@
 -- A refusal's number is not 0, so the first of two checks stands where it refuses. Assumes nothing.
-use Rattle.std.proofs.Common.{ℕ, ◌≡◌, ◌<◌, Bool, true, false, nat_eq, refl, sym, ◌∙◌, arith, rules}
+use Rattle.std.proofs.Common.{ℕ, ◌≡◌, ◌<◌, Bool, true, false, nat_eq, refl, sym, ap, ◌∙◌, arith, rules}
 use Rattle.std.specs.Prelude.{Result, Ok, Err}
 use Rattle.std.specs.Result.{is_ok, is_err}
 use Rattle.refusal.specs.declared.Refusal.{Refusal}
@@ -39,3 +39,41 @@ not_accepted (Err why) e b h none = some_refusal why (e ∙ none)
 pub ok_exactly : {A : Type 0} (r : Result A Refusal) → is_ok r ≡ nat_eq (fault_of r) 0
 ok_exactly (Ok _) = refl
 ok_exactly (Err why) = search (rules, some_refusal)
+
+-- no two refusals have one number: each is the one at its number
+if_is : ℕ → ℕ → Refusal → Refusal → Refusal
+if_is n k this other = elim (nat_eq n k) [ true ↦ this | false ↦ other ]
+
+at_number : ℕ → Refusal
+at_number n =
+    if_is n 1 Plant
+    (if_is n 2 Label
+    (if_is n 3 Arrow
+    (if_is n 4 Book
+    (if_is n 5 Row
+    (if_is n 6 Mask
+    (if_is n 7 Room
+    (if_is n 8 Number
+    (if_is n 9 Masks
+    (if_is n 10 Index
+    (if_is n 11 Bands
+    (if_is n 12 Reading Report)))))))))))
+
+is_at : (why : Refusal) → at_number (number_of why) ≡ why
+unfolding at_number if_is
+is_at Plant = refl
+is_at Label = refl
+is_at Arrow = refl
+is_at Book = refl
+is_at Row = refl
+is_at Mask = refl
+is_at Room = refl
+is_at Number = refl
+is_at Masks = refl
+is_at Index = refl
+is_at Bands = refl
+is_at Reading = refl
+is_at Report = refl
+
+pub same_refusal : (a b : Refusal) → number_of a ≡ number_of b → a ≡ b
+same_refusal a b e = sym (is_at a) ∙ (ap at_number e ∙ is_at b)
