@@ -3,14 +3,14 @@
 use mathlib.Core.Path.{◌≡◌, refl, sym, ap, ◌∙◌}
 use mathlib.Core.Logic.{⊎_elim}
 use mathlib.Core.Bool.{Bool, true, false, ◌&&◌, ◌||◌, not}
-use mathlib.Core.List.{List, [], ◌∷◌}
+use mathlib.Core.List.{List, [], ◌∷◌, ◌++◌}
 use Prim.Native.Nat.{ℕ, ◌+◌, ◌-◌, ◌≤◌, ◌<◌}
 use native.Mathlib.Omega.{arith}
 use native.Mathlib.Numerals.{add-one}
 use borrow.Author.Tests.{eq-eqb, ne_eqb, ltb-true, leb-true}
 use lib.Dec.{eqb, ltb, leb}
 use lib.ListN.{length, get_or, take, drop, set, length-drop}
-use lib.Seq.{get_or-set_same, get_or-set_other, take-suc, take_all, take-take, get_or-take, get_or-drop, length-take-le}
+use lib.Seq.{get_or-set_same, get_or-set_other, take-suc, take-take, take-suc-set, get_or-take, get_or-drop, length-take-le}
 use Rattle.statements.specs.Sets.{is_in}
 use Rattle.sets.proofs.Tests.{decided, same_number, not_both, and_true, and_left, and_right, or_right}
 use Rattle.sets.proofs.Iterate.{sifted_few, sifted_below}
@@ -39,7 +39,16 @@ next_in list k y h =
       or_false (eqb y (get_or list k 0)),
     )
 
--- the marks of the first i nodes of a list are taken away: of none yet, of one more, and of all
+-- the first i nodes of a list are on a worklist, and one more is put there
+pub front_more : (gone list : List ℕ) (i : ℕ) → take i list ≡ take i gone → i < length gone → i < length list
+    → take (i + 1) (set list i (get_or gone i 0)) ≡ take (i + 1) gone
+front_more gone list i front h room =
+    let x = get_or gone i 0 in
+    rw (add-one i)
+    (take-suc-set list i x room
+    ∙ (ap (λ (l : List ℕ). l ++ (x ∷ [])) front ∙ sym (take-suc gone i 0 h)))
+
+-- the marks of the first i nodes of a list are taken away: of none yet, and of one more
 pub unmark_none : (gone member : List ℕ) → Unmarked (take 0 gone) member member
 unfolding is_in
 unmark_none gone member y = refl
@@ -59,10 +68,6 @@ unmark_more gone old new i marks h low y =
     ∙ (ap (λ (b : Bool). is_in y (take i gone) || b) (ne_eqb y x q) ∙ or_false (is_in y (take i gone))) in
     rw same (get_or-set_other new x y 65535 0 q ∙ marks y))
     (same_number y x)
-
-pub unmark_all : (gone old new : List ℕ) (i : ℕ) → Unmarked (take i gone) old new → length gone ≤ i
-    → Unmarked gone old new
-unmark_all gone old new i marks h y = rw (take_all i gone h) at (marks y)
 
 -- the nodes before one place are among those before a later one
 pub fewer_in : (list : List ℕ) (a b y : ℕ) → a ≤ b → b ≤ length list → is_in y (take a list) ≡ true

@@ -6,7 +6,7 @@ ghost use Rattle.game.specs.Marks.{Marked, without};
 ghost use Rattle.game.specs.Packed.{groups_in, rev_in, starts_in};
 ghost use Rattle.game.specs.Cuts.{waits_all};
 ghost use Rattle.game.specs.Playing.{Ready};
-ghost use Rattle.game.specs.Draining.{drained_in, Emptied, Unmarked, Draining, Taken, Grown, Fails, remains};
+ghost use Rattle.game.specs.Draining.{drained_in, Emptied, Once, Unmarked, Draining, Taken, Grown, Fails, remains};
 ghost use Rattle.game.specs.Draining.{Ending};
 
 use crate::reach::Figures;
@@ -31,15 +31,16 @@ fn push(member: &mut [u16], list: &mut [u16], tail: usize, node: u16) -> usize
 fn load(gone: &[u16], member: &mut [u16], list: &mut [u16]) -> usize
     requires room { (length gone.now ≤ length list.old)
         × ((x : ℕ) → is_in x gone.now ≡ true → x < length member.old) }
+    requires once { Once gone.now (length gone.now) }
     ensures number { result ≡ length gone.now }
     ensures list { take result list.new ≡ gone.now }
     ensures member { Unmarked gone.now member.old member.new }
 {
+    let mut tail = 0;
     for node in gone {
-        member[*node as usize] = 65535;
+        tail = push(member, list, tail, *node);
     }
-    list[..gone.len()].copy_from_slice(gone);
-    gone.len()
+    tail
 }
 
 // A packed game that can be worked out.

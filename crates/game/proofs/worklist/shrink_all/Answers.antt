@@ -10,7 +10,7 @@ use Rattle.game.specs.Cuts.{waits_all}
 use Rattle.game.specs.Draining.{Ending, Taken, Unmarked}
 use Rattle.game.proofs.Parts.{starts_nodes, labels_length}
 use Rattle.game.proofs.Plays.{front_few, front_left}
-use Rattle.game.proofs.Shrinking.{cut_sifted, without_cut, drain_begin, shrink_none, shrink_end}
+use Rattle.game.proofs.Shrinking.{sifted_once, cut_sifted, without_cut, drain_begin, shrink_none, shrink_end}
 use Rattle.game.proofs.worklist.shrink_all.Goals as goal
 
 -- what the list was cut down to, and what was cut away
@@ -93,6 +93,7 @@ load-first-requires c =
               c.requires.marked.member_long,
             ),
       );
+      once = sifted_once n _ sifted;
     }
 
 pub drain-labels-requires : goal.drain-labels-requires
