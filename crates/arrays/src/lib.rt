@@ -6,13 +6,16 @@ ghost use Rattle.statements.specs.Sets.{over};
 ghost use Rattle.arrays.specs.Lists.{fitting, zeroed, rising};
 
 // Copies a list over the front of another.
+// Kept: a loop, since `copy_from_slice` has the archive for C ask for `memmove` from outside, as nothing else does.
 pub fn copy(from: &[u16], to: &mut [u16])
     ensures { to.new ≡ over (fitting from.now to.old) to.old }
 {
     if from.len() > to.len() {
         return;
     }
-    to[..from.len()].copy_from_slice(from);
+    for (k, &v) in from.iter().enumerate() {
+        to[k] = v;
+    }
 }
 
 // Puts 0 at each listed place; a place beyond the end is passed over.
