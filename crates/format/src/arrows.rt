@@ -49,10 +49,10 @@ pub fn read(plant: &[u8], k: u16) -> Arrow
 
 // A reader of a plant's arrows: it holds the plant's bytes, the place of the next arrow among them, and how many arrows
 // are left.
-#[derive(Drop)]
+#[derive(Clone, Copy)]
 pub struct Arrows<'a> {
-    plant: &'a [u8],
-    at: usize,
+    pub plant: &'a [u8],
+    pub at: usize,
     left: u16,
     ghost there: { at + 6 * left ≤ length plant.now },
 }
