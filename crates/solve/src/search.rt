@@ -26,17 +26,19 @@ impl Moves<'_> {
         let x = state as usize;
         let first = self.table[x] as usize;
         let last = self.table[x + 1] as usize;
-        'moves: for g in first..last {
-            let at = self.table[1025 + g] as usize;
-            let stop = self.table[1026 + g] as usize;
-            for end in &self.table[ends + at..ends + stop] {
-                let end = *end as usize;
-                if limit <= waits[end] {
-                    continue 'moves;
+        'moves: {
+            'groups: for g in first..last {
+                let at = self.table[1025 + g] as usize;
+                let stop = self.table[1026 + g] as usize;
+                for end in &self.table[ends + at..ends + stop] {
+                    let end = *end as usize;
+                    if limit <= waits[end] {
+                        continue 'groups;
+                    }
                 }
+                break 'moves Some(self.table[moves + g]);
             }
-            return Some(self.table[moves + g]);
+            None
         }
-        None
     }
 }

@@ -11,60 +11,60 @@ bounds-self-x c =
 pub bounds-self-x-2 : goal.bounds-self-x-2
 bounds-self-x-2 c = laws.sought_next (laws.sought c.args.self.now.given c.requires.waits_long c.requires.in_range)
 
-pub moves-init : goal.moves-init
-moves-init c = laws.left_start (laws.sought c.args.self.now.given c.requires.waits_long c.requires.in_range)
+pub groups-init : goal.groups-init
+groups-init c = laws.left_start (laws.sought c.args.self.now.given c.requires.waits_long c.requires.in_range)
 
 pub bounds-self-g : goal.bounds-self-g
 bounds-self-g c =
     let q = laws.sought c.args.self.now.given c.requires.waits_long c.requires.in_range in
-    omega (arith, laws.left_in q c.moves.invariant c.moves-test.true)
+    omega (arith, laws.left_in q c.groups.invariant c.groups-test.true)
 
-pub bounds-self-g-in-moves : goal.bounds-self-g-in-moves
-bounds-self-g-in-moves c =
+pub bounds-self-g-in-groups : goal.bounds-self-g-in-groups
+bounds-self-g-in-groups c =
     let q = laws.sought c.args.self.now.given c.requires.waits_long c.requires.in_range in
-    laws.left_in q c.moves.invariant c.moves-test.true
+    laws.left_in q c.groups.invariant c.groups-test.true
 
 pub slice_bounds-end-items-count : goal.slice_bounds-end-items-count
 slice_bounds-end-items-count c =
     let q = laws.sought c.args.self.now.given c.requires.waits_long c.requires.in_range in
-    omega (arith, (laws.left_ends q c.moves.invariant c.moves-test.true).stop_is)
+    omega (arith, (laws.left_ends q c.groups.invariant c.groups-test.true).stop_is)
 
 pub slice_bounds-end-items-start : goal.slice_bounds-end-items-start
 slice_bounds-end-items-start c =
     let q = laws.sought c.args.self.now.given c.requires.waits_long c.requires.in_range in
-    let d = laws.left_ends q c.moves.invariant c.moves-test.true in
+    let d = laws.left_ends q c.groups.invariant c.groups-test.true in
     omega (arith, d.stop_is, laws.ends_stop_in q d)
 
 pub slice_bounds-end-items-end : goal.slice_bounds-end-items-end
 slice_bounds-end-items-end c =
     let q = laws.sought c.args.self.now.given c.requires.waits_long c.requires.in_range in
-    laws.ends_stop_in q (laws.left_ends q c.moves.invariant c.moves-test.true)
+    laws.ends_stop_in q (laws.left_ends q c.groups.invariant c.groups-test.true)
 
 pub loop-end-init : goal.loop-end-init
 loop-end-init c =
     let q = laws.sought c.args.self.now.given c.requires.waits_long c.requires.in_range in
-    laws.ends_here q (laws.left_ends q c.moves.invariant c.moves-test.true) (omega arith)
+    laws.ends_here q (laws.left_ends q c.groups.invariant c.groups-test.true) (omega arith)
 
 pub bounds-waits-end : goal.bounds-waits-end
 bounds-waits-end c =
     omega (
       arith,
       laws.part_state (laws.sought c.args.self.now.given c.requires.waits_long c.requires.in_range) c.args.limit
-          (get_or c.args.self.now.table.now (1025 + c.moves.g) 0) c.loop-end.end-index c.loop-end.invariant
+          (get_or c.args.self.now.table.now (1025 + c.groups.g) 0) c.loop-end.end-index c.loop-end.invariant
           c.loop-end-test.true,
       c.requires.waits_long,
     )
 
-pub moves-preserved : goal.moves-preserved
-moves-preserved c =
+pub groups-preserved : goal.groups-preserved
+groups-preserved c =
     let q = laws.sought c.args.self.now.given c.requires.waits_long c.requires.in_range in
-    laws.part_high q c.args.limit (get_or c.args.self.now.table.now (1025 + c.moves.g) 0) c.loop-end.end-index c.loop-end.invariant
+    laws.part_high q c.args.limit (get_or c.args.self.now.table.now (1025 + c.groups.g) 0) c.loop-end.end-index c.loop-end.invariant
     c.loop-end-test.true c.if-limit-waits.true
 
 pub loop-end-preserved : goal.loop-end-preserved
 loop-end-preserved c =
     let q = laws.sought c.args.self.now.given c.requires.waits_long c.requires.in_range in
-    laws.part_low q c.args.limit (get_or c.args.self.now.table.now (1025 + c.moves.g) 0) c.loop-end.end-index c.loop-end.invariant
+    laws.part_low q c.args.limit (get_or c.args.self.now.table.now (1025 + c.groups.g) 0) c.loop-end.end-index c.loop-end.invariant
     c.loop-end-test.true c.if-limit-waits.false
 
 pub bounds-self-moves : goal.bounds-self-moves
@@ -72,33 +72,39 @@ bounds-self-moves c =
     let q = laws.sought c.args.self.now.given c.requires.waits_long c.requires.in_range in
     laws.ends_move_in q c.loop-end.invariant
 
-pub returns-in-moves-clause-first : goal.returns-in-moves-clause-first
-returns-in-moves-clause-first c =
+pub returns-after-loop-end-clause-first : goal.returns-after-loop-end-clause-first
+returns-after-loop-end-clause-first c =
     let q = laws.sought c.args.self.now.given c.requires.waits_long c.requires.in_range in
-    let at = get_or c.args.self.now.table.now (1025 + c.moves.g) 0 in
+    let at = get_or c.args.self.now.table.now (1025 + c.groups.g) 0 in
     sym (laws.ends_all q c.loop-end.invariant
     (laws.part_all q c.args.limit at c.loop-end.end-index c.loop-end.invariant c.loop-end-test.false))
 
-pub returns-in-moves-clause-found : goal.returns-in-moves-clause-found
-returns-in-moves-clause-found c =
+pub returns-after-loop-end-clause-found : goal.returns-after-loop-end-clause-found
+returns-after-loop-end-clause-found c =
     let q = laws.sought c.args.self.now.given c.requires.waits_long c.requires.in_range in
-    let at = get_or c.args.self.now.table.now (1025 + c.moves.g) 0 in
+    let at = get_or c.args.self.now.table.now (1025 + c.groups.g) 0 in
     sym (laws.ends_can q c.loop-end.invariant
     (laws.part_all q c.args.limit at c.loop-end.end-index c.loop-end.invariant c.loop-end-test.false))
 
-pub returns-in-moves-clause-lowest : goal.returns-in-moves-clause-lowest
-returns-in-moves-clause-lowest c =
+pub returns-after-loop-end-clause-lowest : goal.returns-after-loop-end-clause-lowest
+returns-after-loop-end-clause-lowest c =
     let q = laws.sought c.args.self.now.given c.requires.waits_long c.requires.in_range in
-    let at = get_or c.args.self.now.table.now (1025 + c.moves.g) 0 in
+    let at = get_or c.args.self.now.table.now (1025 + c.groups.g) 0 in
     sym (laws.ends_all q c.loop-end.invariant
     (laws.part_all q c.args.limit at c.loop-end.end-index c.loop-end.invariant c.loop-end-test.false))
     ∙ sym (moves_lowest _ _ _ _)
 
-pub returns : goal.returns
-returns c =
+pub returns-after-groups-clause-first : goal.returns-after-groups-clause-first
+returns-after-groups-clause-first c =
     let q = laws.sought c.args.self.now.given c.requires.waits_long c.requires.in_range in
-    record {
-      first = sym (laws.left_none q c.moves.invariant c.moves-test.false);
-      found = sym (laws.left_cannot q c.moves.invariant c.moves-test.false);
-      lowest = sym (laws.left_none q c.moves.invariant c.moves-test.false) ∙ sym (moves_lowest _ _ _ _);
-    }
+    sym (laws.left_none q c.groups.invariant c.groups-test.false)
+
+pub returns-after-groups-clause-found : goal.returns-after-groups-clause-found
+returns-after-groups-clause-found c =
+    let q = laws.sought c.args.self.now.given c.requires.waits_long c.requires.in_range in
+    sym (laws.left_cannot q c.groups.invariant c.groups-test.false)
+
+pub returns-after-groups-clause-lowest : goal.returns-after-groups-clause-lowest
+returns-after-groups-clause-lowest c =
+    let q = laws.sought c.args.self.now.given c.requires.waits_long c.requires.in_range in
+    sym (laws.left_none q c.groups.invariant c.groups-test.false) ∙ sym (moves_lowest _ _ _ _)

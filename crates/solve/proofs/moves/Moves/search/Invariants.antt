@@ -6,8 +6,8 @@ use Rattle.solve.specs.Given.{below}
 use Rattle.solve.proofs.Searching.{Left, Ends}
 use Rattle.solve.proofs.moves.Moves.search.Given as goal
 
-abbrev pub invariant-moves : goal.invariant-moves
-invariant-moves l =
+abbrev pub invariant-groups : goal.invariant-groups
+invariant-groups l =
     let p = plant_of l.self.plant.now in
     Left p l.self.frame.mask (below l.waits l.limit p.states) l.state l.last l.g
 
