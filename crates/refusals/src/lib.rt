@@ -92,7 +92,8 @@ fn lent(plant: &[u8], book: &[u8]) -> Result<(), Refusal>
     ensures { fault_of result ≡ lent_fault plant.now book.now }
 {
     check_plant(plant)?;
-    if !(rows::head_ok(book) & alike(plant, book)) {
+    let fits = rows::head_ok(book) & alike(plant, book);
+    if !fits {
         return Err(Refusal::Book);
     }
     check_book(book)

@@ -13,9 +13,9 @@ pub returns-in_err-check_plant : goal.returns-in_err-check_plant
 unfolding lent_fault
 returns-in_err-check_plant c = search (rules, first_err, c.in_err-check_plant.ensures)
 
-pub returns-then-not-head_ok-alike : goal.returns-then-not-head_ok-alike
+pub returns-then-not-fits : goal.returns-then-not-fits
 unfolding lent_fault
-returns-then-not-head_ok-alike c =
+returns-then-not-fits c =
     search (rules, first_ok, first_err, c.in_ok-check_plant.ensures)
 
 pub returns : goal.returns
