@@ -51,7 +51,7 @@ within_written false s mask test start o e room =
     (sym w.0, sym w.1)
 
 -- striking out the states that are not allowed leaves the others at the front of the list
-struck : (p : Plant) (list new xs old : List ℕ) {count kept : ℕ} → list ≡ over xs old → count ≡ length xs
+pub struck : (p : Plant) (list new xs old : List ℕ) {count kept : ℕ} → list ≡ over xs old → count ≡ length xs
     → count ≤ length list → length new ≡ length list → kept ≡ length (filter (allowed p) (take count list))
     → take kept new ≡ filter (allowed p) (take count list)
     → (kept ≤ length new) × (take kept new ≡ filter (allowed p) xs)
@@ -91,9 +91,46 @@ ready s b gone out drops h =
       few = omega (arith, plant_few s parts.0, same);
     }
 
+-- the book of a making is the one within the allowed states
+pub made_written : (indexed : Bool) (index s : List ℕ) (mask : ℕ) (start o : List ℕ) {long : Option ℕ} {o' : List ℕ}
+    → book_room (plant_of s) (length o) ≡ true
+    → start ≡ filter (allowed (plant_of s)) (numbers (plant_of s).states 0)
+    → let good = accepts indexed index s in
+    let p = plant_of s in
+    long ≡ written_long good s start o → o' ≡ written_book good s mask start o
+    → (long ≡ pick good (Some (length (made_book p mask))) None) × (o' ≡ pick good (over (made_book p mask) o) o)
+unfolding made_book
+made_written indexed index s mask start o room h el eo =
+    let p = plant_of s in
+    let good = accepts indexed index s in
+    let w = within_written good s mask (allowed p) start o h room in
+    (el ∙ w.0 ∙ ap (λ (n : ℕ). pick good (Some n) None) (sym (within_length p mask (allowed p))), eo ∙ w.1)
+
+-- and that of a withdrawal the one within the allowed states that the old book keeps, for the old mask less the moves
+-- withdrawn
+pub withdrawn_written : (indexed : Bool) (index s b : List ℕ) (gone drops : ℕ) (o start : List ℕ) {mask : ℕ}
+    {long : Option ℕ} {o' : List ℕ}
+    → withdraw_ahead s b gone (length o) drops ≡ true
+    → start ≡ filter (allowed (plant_of s)) (book_kept b)
+    → mask ≡ book_mask b
+    → let good = accepts indexed index s in
+    let book = withdrawn_book (plant_of s) b gone in
+    long ≡ written_long good s start o → o' ≡ written_book good s (mask - bit_and mask gone) start o
+    → (long ≡ pick good (Some (length book)) None) × (o' ≡ pick good (over book o) o)
+unfolding withdrawn_book less_mask
+withdrawn_written indexed index s b gone drops o start {mask} h es em el eo =
+    let p = plant_of s in
+    let good = accepts indexed index s in
+    let lent = ready s b gone (length o) drops h in
+    let w = within_written good s (mask - bit_and mask gone) (kept_before p b) start o
+    (es ∙ kept_before_lem p b lent.states) lent.room in (
+      el ∙ w.0 ∙ ap (λ (n : ℕ). pick good (Some n) None) (sym (withdrawn_length p b gone)),
+      eo ∙ w.1 ∙ ap (λ (m : ℕ). pick good (over (book_within p (less_mask m gone) (kept_before p b)) o) o) em,
+    )
+
 -- the states listed that are not allowed are struck out of the list: of all states, the book of a making is within what is
 -- left
-pub made_written : (indexed : Bool) (index s : List ℕ) (mask : ℕ) (o new old : List ℕ) {list o' : List ℕ} {all kept : ℕ}
+pub made_struck : (indexed : Bool) (index s : List ℕ) (mask : ℕ) (o new old : List ℕ) {list o' : List ℕ} {all kept : ℕ}
     {long : Option ℕ}
     → head_ok s ≡ true → book_room (plant_of s) (length o) ≡ true
     → all ≡ (plant_of s).states → list ≡ over (numbers (plant_of s).states 0) old → 1024 ≤ length list
@@ -103,17 +140,14 @@ pub made_written : (indexed : Bool) (index s : List ℕ) (mask : ℕ) (o new old
     let p = plant_of s in
     long ≡ written_long good s (take kept new) o → o' ≡ written_book good s mask (take kept new) o
     → (long ≡ pick good (Some (length (made_book p mask))) None) × (o' ≡ pick good (over (made_book p mask) o) o)
-unfolding made_book
-made_written indexed index s mask o new old {list} {o'} {all} {kept} head room number began size same count still el eo =
+made_struck indexed index s mask o new old {list} head room number began size same count still el eo =
     let p = plant_of s in
-    let good = accepts indexed index s in
     let left = struck p list new _ old began (number ∙ sym (length_numbers p.states 0))
     (omega (arith, plant_few s head)) same count still in
-    let w = within_written good s mask (allowed p) (take kept new) o left.1 room in
-    (el ∙ w.0 ∙ ap (λ (n : ℕ). pick good (Some n) None) (sym (within_length p mask (allowed p))), eo ∙ w.1)
+    made_written indexed index s mask (take _ new) o room left.1 el eo
 
--- and of those that the old book keeps, the book of a withdrawal, for the old mask less the moves withdrawn
-pub withdrawn_written : (indexed : Bool) (index s b : List ℕ) (gone drops : ℕ) (o new old : List ℕ)
+-- and of those that the old book keeps, the book of a withdrawal
+pub withdrawn_struck : (indexed : Bool) (index s b : List ℕ) (gone drops : ℕ) (o new old : List ℕ)
     {list o' : List ℕ} {before kept mask : ℕ} {long : Option ℕ} → withdraw_ahead s b gone (length o) drops ≡ true
     → before ≡ length (book_kept b) → list ≡ over (book_kept b) old → 1024 ≤ length list
     → length new ≡ length list → kept ≡ length (filter (allowed (plant_of s)) (take before list))
@@ -124,17 +158,10 @@ pub withdrawn_written : (indexed : Bool) (index s b : List ℕ) (gone drops : �
     long ≡ written_long good s (take kept new) o
     → o' ≡ written_book good s (mask - bit_and mask gone) (take kept new) o
     → (long ≡ pick good (Some (length book)) None) × (o' ≡ pick good (over book o) o)
-unfolding withdrawn_book less_mask
-withdrawn_written indexed index s b gone drops o new old {list} {o'} {before} {kept} {mask} h number began size same count still em el eo =
-    let p = plant_of s in
-    let good = accepts indexed index s in
+withdrawn_struck indexed index s b gone drops o new old {list} h number began size same count still em el eo =
     let lent = ready s b gone (length o) drops h in
-    let left = struck p list new _ old began number (omega (arith, kept_few b, lent.few)) same count still in
-    let w = within_written good s (mask - bit_and mask gone) (kept_before p b) (take kept new) o
-    (left.1 ∙ kept_before_lem p b lent.states) lent.room in (
-      el ∙ w.0 ∙ ap (λ (n : ℕ). pick good (Some n) None) (sym (withdrawn_length p b gone)),
-      eo ∙ w.1 ∙ ap (λ (m : ℕ). pick good (over (book_within p (less_mask m gone) (kept_before p b)) o) o) em,
-    )
+    let left = struck (plant_of s) list new _ old began number (omega (arith, kept_few b, lent.few)) same count still in
+    withdrawn_written indexed index s b gone drops o (take _ new) h left.1 em el eo
 
 -- every book has its header
 long_least : (t : Bool) (s n : ℕ) → 16 ≤ book_long t s n

@@ -53,7 +53,7 @@ module _ (b : List ℕ) (x : ℕ) where
   entry_known i t e = rw e refl
 
   -- the entries of a state's row stand within a book with a good header
-  pub entries_within : (t : Bool) (start n : ℕ) → t ≡ staged b → book_head_ok b ≡ true → x < book_states b
+  pub entries_within : (t : Bool) (start n : ℕ) → t ≡ staged b → BookHead b → x < book_states b
       → start ≡ entry_in t b x 0 → n ≡ word 2 b → start + 4 * n ≤ length b
   unfolding book_goals
   entries_within t start n e head h place goals =
@@ -64,7 +64,7 @@ module _ (b : List ℕ) (x : ℕ) where
         goals,
         entry_known 0 t e,
         entry_place_lem b x 0,
-        (head_given b head).size,
+        head.size,
         long_is (staged b) (book_states b) (book_goals b),
         row_within x w h,
       )

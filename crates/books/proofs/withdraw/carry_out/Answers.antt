@@ -4,7 +4,7 @@ use Rattle.std.proofs.Common.{is_some, sym, arith, length-take-le}
 use Rattle.decoding.proofs.Sizes.{kept_few}
 use Rattle.writing.proofs.Solved.{written_fits}
 use Rattle.graph.specs.Packed.{lent_bytes}
-use Rattle.books.proofs.Made.{ready, withdrawn_written}
+use Rattle.books.proofs.Made.{ready, withdrawn_struck}
 use Rattle.books.proofs.Answered.{withdraw_none, withdraw_done}
 use Rattle.books.proofs.withdraw.carry_out.Goals as goal
 
@@ -25,7 +25,7 @@ allowed-kept-requires c =
 pub returns-in_default : goal.returns-in_default
 returns-in_default c =
     let a = c.args in
-    let w = withdrawn_written (is_some a.index) (lent_bytes a.index) a.plant.now a.book.now a.gone _ a.out.now c.allowed-kept.new.list _ c.requires
+    let w = withdrawn_struck (is_some a.index) (lent_bytes a.index) a.plant.now a.book.now a.gone _ a.out.now c.allowed-kept.new.list _ c.requires
     c.kept-before.ensures.number c.kept-before.ensures.list (omega (arith, c.kept-before.auto.list))
     c.allowed-kept.auto.list c.allowed-kept.ensures.number c.allowed-kept.ensures.still c.mask-old.ensures
     c.in_default.ensures.long c.in_default.ensures.bytes in
@@ -43,7 +43,7 @@ slice_bounds-dropped-end-2 c =
 pub returns : goal.returns
 returns c =
     let a = c.args in
-    let w = withdrawn_written (is_some a.index) (lent_bytes a.index) a.plant.now a.book.now a.gone _ a.out.now c.allowed-kept.new.list _ c.requires
+    let w = withdrawn_struck (is_some a.index) (lent_bytes a.index) a.plant.now a.book.now a.gone _ a.out.now c.allowed-kept.new.list _ c.requires
     c.kept-before.ensures.number c.kept-before.ensures.list (omega (arith, c.kept-before.auto.list))
     c.allowed-kept.auto.list c.allowed-kept.ensures.number c.allowed-kept.ensures.still c.mask-old.ensures
     c.in-Some.ensures.long c.in-Some.ensures.bytes in

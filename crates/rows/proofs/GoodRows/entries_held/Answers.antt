@@ -17,7 +17,7 @@ word_in-action-requires c =
     let good = c.args.self.now in
     omega (
       arith,
-      entries_within good.rows.book.now c.args.state good.rows.stages _ _ good.sort good.head c.requires
+      entries_within good.rows.book.now c.args.state good.rows.stages _ _ good.sort (head_given _ good.head) c.requires
           c.entry-start.ensures.place (c.from-goal-end.ensures ∙ c.number.ensures),
     )
 
@@ -26,7 +26,7 @@ word_in-waits-requires c =
     let good = c.args.self.now in
     omega (
       arith,
-      entries_within good.rows.book.now c.args.state good.rows.stages _ _ good.sort good.head c.requires
+      entries_within good.rows.book.now c.args.state good.rows.stages _ _ good.sort (head_given _ good.head) c.requires
           c.entry-start.ensures.place (c.from-goal-end.ensures ∙ c.number.ensures),
     )
 
