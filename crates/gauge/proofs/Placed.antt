@@ -16,9 +16,8 @@ use Rattle.statements.specs.Plants.{first_of, when}
 use Rattle.sets.proofs.Tests.{and_iff, and_left, and_right, and_true}
 use Rattle.sets.proofs.First.{first_holds, first_least}
 use Rattle.gauge.specs.declared.Band.{Band}
-use Rattle.std.specs.Prelude.{Option, Some, None, Result, Ok, Err}
-use Rattle.refusal.specs.declared.Refusal.{Refusal}
-use Rattle.refusal.proofs.Refused.{some_refusal, same_refusal}
+use Rattle.std.specs.Prelude.{Option, Some, None, Ok}
+use Rattle.refusal.proofs.Refused.{same_result}
 use Rattle.gauge.specs.Bands.{Place, place_of}
 use Rattle.gauge.specs.Numbers.{Number, value_of}
 use Rattle.gauge.specs.Bands.{band_of, table_ok, deviation_of, reading_ok, gauge_fault, holds, band_at, PlaceSays}
@@ -156,16 +155,15 @@ same_place : {r q : Place} → r.number ≡ q.number → r.found ≡ q.found →
 same_place en ef es = λ k. record { number = en k; found = ef k; state = es k }
 
 -- what the call hands back is told by the fields
-same_found : (r q : Result (Option ℕ) Refusal) → place_of r ≡ place_of q → r ≡ q
-same_found (Ok (Some x)) (Ok (Some y)) e = λ k. Ok (Some (e k).state)
-same_found (Ok (Some x)) (Ok None) e = absurd (true≢false (ap (λ (p : Place). p.found) e))
-same_found (Ok None) (Ok (Some y)) e = absurd (true≢false (sym (ap (λ (p : Place). p.found) e)))
-same_found (Ok None) (Ok None) e = λ k. Ok None
-same_found (Ok (Some x)) (Err why) e = absurd (some_refusal why (sym (ap (λ (p : Place). p.number) e)))
-same_found (Ok None) (Err why) e = absurd (some_refusal why (sym (ap (λ (p : Place). p.number) e)))
-same_found (Err why) (Ok (Some y)) e = absurd (some_refusal why (ap (λ (p : Place). p.number) e))
-same_found (Err why) (Ok None) e = absurd (some_refusal why (ap (λ (p : Place). p.number) e))
-same_found (Err why) (Err other) e = ap Err (same_refusal why other (ap (λ (p : Place). p.number) e))
+accepted_place : (f : Option ℕ) → (place_of (Ok f)).number ≡ 0
+accepted_place (Some x) = refl
+accepted_place None = refl
+
+same_state : (f g : Option ℕ) → place_of (Ok f) ≡ place_of (Ok g) → f ≡ g
+same_state (Some x) (Some y) e = ap Some (ap (λ (p : Place). p.state) e)
+same_state (Some x) None e = absurd (true≢false (ap (λ (p : Place). p.found) e))
+same_state None (Some y) e = absurd (true≢false (sym (ap (λ (p : Place). p.found) e)))
+same_state None None e = refl
 
 -- all of it
 pub placed : Placed
@@ -174,5 +172,5 @@ placed =
       one = one;
       means = means;
       determined = λ kinds ends states s reading aim r q h k. same_place (cc) (cc) (cc);
-      places = same_found;
+      places = same_result place_of (λ (p : Place). p.number) accepted_place (λ why. refl) same_state;
     }

@@ -1,12 +1,12 @@
 -- What is handed in fixes what the calls answer and write: each promise is an equation for every field and buffer, and
 -- what hangs on the answer's number hangs on what is handed in. Assumes nothing.
-use mathlib.Core.Path.{◌≡◌, sym, ap, ◌∙◌}
-use mathlib.Core.Bool.{Bool, true≢false}
+use mathlib.Core.Path.{◌≡◌, refl, sym, ap, ◌∙◌}
+use mathlib.Core.Bool.{true≢false}
 use mathlib.Core.List.{List}
 use Prim.Native.Nat.{ℕ}
-use Rattle.std.specs.Prelude.{Option, Some, None, Result, Ok, Err}
+use Rattle.std.specs.Prelude.{Option, Some, None, Result, Ok}
 use Rattle.refusal.specs.declared.Refusal.{Refusal}
-use Rattle.refusal.proofs.Refused.{some_refusal, same_refusal}
+use Rattle.refusal.proofs.Refused.{same_result}
 use Rattle.promises.specs.declared.Wrote.{Wrote}
 use Rattle.promises.specs.declared.Preview.{Preview}
 use Rattle.promises.specs.declared.NextMove.{NextMove}
@@ -52,36 +52,35 @@ same_written : {number : ℕ} {after listed o o' o'' d d' d'' : List ℕ} {r r' 
     → (r ≡ r') × (o' ≡ o'') × (d' ≡ d'')
 same_written h k = (same_answer (cc) (cc) (cc), cc, cc)
 
--- what a call hands back is told by the fields: it is accepted in one where it is in the other, and gives the same
+-- what a call hands back is told by the fields
 pub same_wrote : (r r' : Result Wrote Refusal) → answer_of r ≡ answer_of r' → r ≡ r'
-same_wrote (Ok w) (Ok w') e = λ k. Ok (record { length = (e k).length; drops = (e k).drops })
-same_wrote (Ok w) (Err why) e = absurd (some_refusal why (sym (ap (λ (a : Answer). a.number) e)))
-same_wrote (Err why) (Ok w) e = absurd (some_refusal why (ap (λ (a : Answer). a.number) e))
-same_wrote (Err why) (Err why') e = ap Err (same_refusal why why' (ap (λ (a : Answer). a.number) e))
+same_wrote =
+    same_result answer_of (λ (a : Answer). a.number) (λ w. refl) (λ why. refl)
+    (λ w w' e. λ k. record { length = (e k).length; drops = (e k).drops })
 
 pub same_preview : (r r' : Result Preview Refusal) → cost_of r ≡ cost_of r' → r ≡ r'
-same_preview (Ok p) (Ok p') e = λ k. Ok (record { drops = (e k).drops; kept = (e k).kept })
-same_preview (Ok p) (Err why) e = absurd (some_refusal why (sym (ap (λ (c : Cost). c.number) e)))
-same_preview (Err why) (Ok p) e = absurd (some_refusal why (ap (λ (c : Cost). c.number) e))
-same_preview (Err why) (Err why') e = ap Err (same_refusal why why' (ap (λ (c : Cost). c.number) e))
-
-pub same_advised : (r r' : Result (Option NextMove) Refusal) → advice_of r ≡ advice_of r' → r ≡ r'
-same_advised (Ok (Some m)) (Ok (Some m')) e =
-    λ k. Ok (Some (record { action = (e k).action; wait = (e k).wait; seek = (e k).seek }))
-same_advised (Ok (Some m)) (Ok None) e = absurd (true≢false (sym (ap (λ (a : Advice). a.lost) e)))
-same_advised (Ok None) (Ok (Some m)) e = absurd (true≢false (ap (λ (a : Advice). a.lost) e))
-same_advised (Ok None) (Ok None) e = λ k. Ok None
-same_advised (Ok (Some m)) (Err why) e = absurd (some_refusal why (sym (ap (λ (a : Advice). a.number) e)))
-same_advised (Ok None) (Err why) e = absurd (some_refusal why (sym (ap (λ (a : Advice). a.number) e)))
-same_advised (Err why) (Ok (Some m)) e = absurd (some_refusal why (ap (λ (a : Advice). a.number) e))
-same_advised (Err why) (Ok None) e = absurd (some_refusal why (ap (λ (a : Advice). a.number) e))
-same_advised (Err why) (Err why') e = ap Err (same_refusal why why' (ap (λ (a : Advice). a.number) e))
+same_preview =
+    same_result cost_of (λ (c : Cost). c.number) (λ p. refl) (λ why. refl)
+    (λ p p' e. λ k. record { drops = (e k).drops; kept = (e k).kept })
 
 pub same_moves : (r r' : Result ℕ Refusal) → mask_of r ≡ mask_of r' → r ≡ r'
-same_moves (Ok m) (Ok m') e = λ k. Ok (e k).mask
-same_moves (Ok m) (Err why) e = absurd (some_refusal why (sym (ap (λ (a : Mask). a.number) e)))
-same_moves (Err why) (Ok m) e = absurd (some_refusal why (ap (λ (a : Mask). a.number) e))
-same_moves (Err why) (Err why') e = ap Err (same_refusal why why' (ap (λ (a : Mask). a.number) e))
+same_moves =
+    same_result mask_of (λ (m : Mask). m.number) (λ m. refl) (λ why. refl) (λ m m' e. ap (λ (a : Mask). a.mask) e)
+
+accepted_advice : (m : Option NextMove) → (advice_of (Ok m)).number ≡ 0
+accepted_advice (Some m) = refl
+accepted_advice None = refl
+
+same_next : (m m' : Option NextMove) → advice_of (Ok m) ≡ advice_of (Ok m') → m ≡ m'
+same_next (Some m) (Some m') e =
+    λ k. Some (record { action = (e k).action; wait = (e k).wait; seek = (e k).seek })
+same_next (Some m) None e = absurd (true≢false (sym (ap (λ (a : Advice). a.lost) e)))
+same_next None (Some m) e = absurd (true≢false (ap (λ (a : Advice). a.lost) e))
+same_next None None e = refl
+
+pub same_advised : (r r' : Result (Option NextMove) Refusal) → advice_of r ≡ advice_of r' → r ≡ r'
+same_advised =
+    same_result advice_of (λ (a : Advice). a.number) accepted_advice (λ why. refl) same_next
 
 pub same_stepped : (r r' : Step) → stepped_of r ≡ stepped_of r' → r ≡ r'
 same_stepped r r' e =

@@ -77,3 +77,15 @@ is_at Report = refl
 
 pub same_refusal : (a b : Refusal) → number_of a ≡ number_of b → a ≡ b
 same_refusal a b e = sym (is_at a) ∙ (ap at_number e ∙ is_at b)
+
+-- an answer's fields, of which one is its number, fix a result where they fix what is given
+pub same_result : {A R : Type 0} (of : Result A Refusal → R) (number : R → ℕ) → ((a : A) → number (of (Ok a)) ≡ 0)
+    → ((why : Refusal) → number (of (Err why)) ≡ number_of why) → ((a b : A) → of (Ok a) ≡ of (Ok b) → a ≡ b)
+    → (r s : Result A Refusal) → of r ≡ of s → r ≡ s
+same_result of number none some given (Ok a) (Ok b) e = ap Ok (given a b e)
+same_result of number none some given (Ok a) (Err why) e =
+    absurd (some_refusal why (sym (some why) ∙ (sym (ap number e) ∙ none a)))
+same_result of number none some given (Err why) (Ok b) e =
+    absurd (some_refusal why (sym (some why) ∙ (ap number e ∙ none b)))
+same_result of number none some given (Err why) (Err other) e =
+    ap Err (same_refusal why other (sym (some why) ∙ (ap number e ∙ some other)))
