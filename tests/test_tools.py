@@ -611,8 +611,7 @@ class Build(Case):
 
 
 # A call that writes to a pipe whose reader is gone before it begins, however slow the machine is.
-LEFT = ('f=$(mktemp -u) && mkfifo "$f" && { true <"$f" & exec 4>"$f"; wait $!; rm "$f"; } && '
-        'exec "$0" "$@" >&4 4>&-')
+LEFT = 'exec 4> >(:); wait $! && exec "$0" "$@" >&4 4>&-'
 
 # A plant whose listing is longer than 60 KiB: every state kept for 8 goals.
 LONG = plant.Plant(1024, 1, 8, [511] * 1024, [(state, 0, state) for state in range(1024)])
